@@ -2,7 +2,7 @@ ghost use Rattle.std.specs.Prelude.{◌≡◌, true, IfOk};
 ghost use Rattle.lockset_flow.specs.Flow.{all_sized};
 
 use crate::made::{READS_FORMAL, WRITES_FORMAL, add, library};
-use abstract_machine::LibraryCall;
+use word_semantics::LibraryCall;
 use facts::{Held, LockPath, Minus, RelLocks, argument_names};
 use flow_code::{Act, Code, Function, Instr, is_valid};
 use lockset_flow::{FlowFacts, flow_function};

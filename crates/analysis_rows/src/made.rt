@@ -1,5 +1,5 @@
 //! Instructions and locks written by hand.
-use abstract_machine::LibraryCall;
+use word_semantics::LibraryCall;
 use facts::{Held, LockPath};
 use flow_code::{Act, Instr};
 use rr_base::{List, Position};

@@ -3,7 +3,7 @@ ghost use Rattle.facts.specs.PointsTo as spec;
 ghost use Rattle.facts.specs.PointsTo.{IsPointsTo};
 
 use crate::made::{START, add};
-use abstract_machine::LibraryCall;
+use word_semantics::LibraryCall;
 use facts::{Node, PointsTo};
 use flow_code::{Act, Code, Function, Instr, Work, is_valid};
 use points_to::solve;

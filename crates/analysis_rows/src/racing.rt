@@ -2,7 +2,7 @@ ghost use Rattle.std.specs.Prelude.{◌≡◌, ℕ, [], ◌<◌, length, slice_g
 ghost use Rattle.flow_code.specs.declared.code.Function.{Function};
 
 use crate::made::{READS_FORMAL, WRITES_FORMAL, instrs, library};
-use abstract_machine::LibraryCall;
+use word_semantics::LibraryCall;
 use facts::{AccessAt, Guarded, Held, LockPath, Minus, Pair, PointsTo, RelLocks, Summary};
 use flow_code::{Act, Code, Function};
 use race_pairs::pairs;

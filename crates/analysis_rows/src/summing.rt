@@ -1,7 +1,7 @@
 use crate::made::{
     READS_FIRST_CELL, READS_FORMAL, START, WRITES_FIRST_CELL, WRITES_FORMAL, add, library,
 };
-use abstract_machine::LibraryCall;
+use word_semantics::LibraryCall;
 use facts::{AccessAt, Guarded, Held, LockPath, Minus, Pair, RelLocks, Summary};
 use flow_code::{Act, Code, Function, Instr, Work, is_valid};
 use lockset_summary::summaries;

@@ -6,7 +6,7 @@ use Rattle.c_types.specs.declared.library.StarredType.{StarredType}
 use Rattle.c_locals.specs.Addresses.{numbered_from}
 use Rattle.c_programs.specs.Declarators.{after_params}
 use Rattle.c_types.specs.Scopes.{Known}
-use Rattle.c_core.specs.Core as core
+use Rattle.core_tree.specs.Core as core
 use Rattle.c_operators.specs.Context.{Source, Frame, context_in}
 use Rattle.c_frames.specs.declared.local.Local.{Local}
 use Rattle.c_frames.specs.Frames.{formal_of, frame_of, function_by, marked}

@@ -6,10 +6,10 @@ use Rattle.c_numbers.specs.Numbered.{Numbered}
 use Rattle.c_locals.specs.Addresses.{after_formals, numbered_from}
 use Rattle.c_programs.specs.Declarators.{after_params}
 use Rattle.c_types.specs.Scopes.{Known}
-use Rattle.c_core.specs.declared.program.CoreFunction.{CoreFunction}
-use Rattle.c_core.specs.declared.statement.Statement.{Statement as RustStatement}
-use Rattle.c_core.specs.Core as core
-use Rattle.c_core.specs.View.{function_of, stmt_of}
+use Rattle.core_tree.specs.declared.program.CoreFunction.{CoreFunction}
+use Rattle.core_tree.specs.declared.statement.Statement.{Statement as RustStatement}
+use Rattle.core_tree.specs.Core as core
+use Rattle.core_tree.specs.View.{function_of, stmt_of}
 use Rattle.c_operators.specs.Context.{Source, Frame, context_in}
 use Rattle.c_statements.specs.Statements.{block_of, all_elaborated}
 

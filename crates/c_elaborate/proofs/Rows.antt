@@ -2,7 +2,7 @@
 use Rattle.std.proofs.Common.{◌≡◌, ℕ, ◌+◌, pos, true, false, List, [], ◌∷◌, map, Some, None, refl, codes}
 use Rattle.rr_base.specs.Words.{pack}
 use Rattle.rr_base.specs.declared.layout.CellKind.TheVariants as cell
-use Rattle.abstract_machine.specs.declared.operator.BinaryOp.TheVariants as flow
+use Rattle.word_semantics.specs.declared.operator.BinaryOp.TheVariants as flow
 use Rattle.c_tree.specs.declared.ctype.Specifier.TheVariants as specifier
 use Rattle.c_tree.specs.declared.expr.AssignOp.TheVariants as assign_op
 use Rattle.c_tree.specs.declared.expr.BinaryOp.TheVariants as binary_op
@@ -12,7 +12,7 @@ use Rattle.c_types.specs.Library.{library_named}
 use Rattle.c_numbers.specs.Numbered.{following}
 use Rattle.c_sites.proofs.SiteRows.{at, name_at, plain_at, int, n, first_source}
 use Rattle.rr_base.specs.declared.position.Position.{Position}
-use Rattle.c_core.specs.Core as core
+use Rattle.core_tree.specs.Core as core
 use Rattle.c_elaborate.specs.Whole.{core_of_source}
 
 abbrev place : ℕ → Position

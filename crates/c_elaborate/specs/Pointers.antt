@@ -7,7 +7,7 @@ use Rattle.c_types.specs.declared.names.PointerType.{PointerType}
 use Rattle.c_types.specs.Scopes.{Known, Meaning, variable, function_of, seen, has_name}
 use Rattle.c_types.specs.Signatures.{pointer_numbered}
 use Rattle.c_types.specs.Standing.{is_main}
-use Rattle.c_core.specs.Core as core
+use Rattle.core_tree.specs.Core as core
 use Rattle.c_operators.specs.Denoted.{position_of}
 use Rattle.c_values.specs.Calls.{is_pointer_wanted, gives_pointer}
 

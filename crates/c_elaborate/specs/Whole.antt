@@ -12,7 +12,7 @@ use Rattle.c_locals.specs.Addresses.{count_of_outer, program_addressed}
 use Rattle.c_locals.specs.Taken.{program_taken}
 use Rattle.c_spots.specs.Spots.{known_after, program_spots}
 use Rattle.c_sites.specs.Sites.{kinds_of_structs, program_sites}
-use Rattle.c_core.specs.Core as core
+use Rattle.core_tree.specs.Core as core
 use Rattle.c_operators.specs.Context.{Source}
 use Rattle.c_elaborate.specs.Functions.{definition}
 use Rattle.c_elaborate.specs.Pointers.{source_pointers}

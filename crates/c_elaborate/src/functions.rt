@@ -7,13 +7,13 @@ ghost use Rattle.c_locals.specs.Addresses.{count_of_parts};
 ghost use Rattle.c_programs.specs.Declarators.{after_params};
 ghost use Rattle.c_programs.specs.Statements.{after_parts};
 ghost use Rattle.c_names.specs.Table.{known_of};
-ghost use Rattle.c_core.specs.View.{function_of, stmt_of};
+ghost use Rattle.core_tree.specs.View.{function_of, stmt_of};
 ghost use Rattle.c_operators.specs.Context.{context_in};
 ghost use Rattle.c_statements.specs.Statements as spec_statements;
 ghost use Rattle.c_elaborate.specs.Functions as spec;
 ghost use Rattle.c_operators.specs.Views.{frame_in, source_in};
 
-use c_core::{CoreFunction, Statement};
+use core_tree::{CoreFunction, Statement};
 use c_frames::{Local, frame_of, function_by, kept_in, pass_formals};
 use c_locals::Marks;
 use c_names::Table;

@@ -1,5 +1,5 @@
 //! What a C source does, as a core tree: from a source whose types and names break no rule to the tree in which they are
-//! settled. It stands on `c_sites`, `c_core`, `c_operators`, `c_values`, `c_globals`, `c_frames` and `c_statements`.
+//! settled. It stands on `c_sites`, `core_tree`, `c_operators`, `c_values`, `c_globals`, `c_frames` and `c_statements`.
 #![tactic(auto)]
 
 mod functions;

@@ -1,10 +1,10 @@
 //! The types of the pointers to functions of a source, and to which functions each may point (C99 6.7.5.3).
 ghost use Rattle.std.specs.Prelude.{◌≡◌, ◌++◌, [], IfOk, OnOk, map};
 ghost use Rattle.c_names.specs.Table.{known_of, texts_of};
-ghost use Rattle.c_core.specs.View.{pointer_of};
+ghost use Rattle.core_tree.specs.View.{pointer_of};
 ghost use Rattle.c_elaborate.specs.Pointers as spec;
 
-use c_core::PointerType as CorePointer;
+use core_tree::PointerType as CorePointer;
 use c_locals::Taken;
 use c_names::Table;
 use c_types::{Meaning, Names, PointerType, Wanted, is_main};

@@ -14,7 +14,7 @@ ghost use Rattle.c_sites.specs.Sites.{program_sites};
 ghost use Rattle.c_locals.specs.Taken.{program_taken};
 ghost use Rattle.c_names.specs.Table.{known_of, texts_of};
 ghost use Rattle.c_sites.specs.Typed.{program_in};
-ghost use Rattle.c_core.specs.View.{core_of, function_of, pointer_of};
+ghost use Rattle.core_tree.specs.View.{core_of, function_of, pointer_of};
 ghost use Rattle.c_elaborate.specs.Functions.{definition};
 ghost use Rattle.c_globals.specs.Globals as spec_globals;
 ghost use Rattle.c_operators.specs.Views.{source_in};
@@ -22,7 +22,7 @@ ghost use Rattle.c_elaborate.specs.Whole as spec;
 
 use crate::functions::definition;
 use crate::pointers::source_pointers;
-use c_core::{Core, CoreFunction, PointerType};
+use core_tree::{Core, CoreFunction, PointerType};
 use c_globals::{global_bases, global_kinds, globals_in, push_objects};
 use c_locals::{Marks, Taken, addressed_in, taken_in};
 use c_names::{Table, listed, signature_of};

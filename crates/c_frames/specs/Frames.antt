@@ -8,7 +8,7 @@ use Rattle.c_types.specs.declared.library.StarredType.{StarredType}
 use Rattle.c_rules.specs.Faults.{name_place}
 use Rattle.c_locals.specs.Kept.{is_kept}
 use Rattle.c_locals.specs.Addresses.{is_among}
-use Rattle.c_core.specs.Core as core
+use Rattle.core_tree.specs.Core as core
 use Rattle.c_operators.specs.declared.home.Home.{Home}
 use Rattle.c_operators.specs.declared.home.Home.TheVariants as home
 use Rattle.c_operators.specs.Context.{Frame, site_at}

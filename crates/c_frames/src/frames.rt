@@ -7,13 +7,13 @@ ghost use Rattle.c_locals.specs.Addresses.{count_of_parts};
 ghost use Rattle.c_programs.specs.Declarators.{after_params};
 ghost use Rattle.c_numbers.specs.NumberTables.{numbered_of};
 ghost use Rattle.c_names.specs.Table.{known_of};
-ghost use Rattle.c_core.specs.View.{arrival_of, function_of, stmt_of};
+ghost use Rattle.core_tree.specs.View.{arrival_of, function_of, stmt_of};
 ghost use Rattle.c_frames.specs.Frames as spec;
 ghost use Rattle.c_frames.specs.Locals.{parts_locals};
 ghost use Rattle.c_operators.specs.Views.{frame_in, source_in};
 
 use crate::local::{Local, push_parts_locals};
-use c_core::{Arrival, CoreFunction, Statement};
+use core_tree::{Arrival, CoreFunction, Statement};
 use c_locals::{Marks, is_kept_formal};
 use c_names::{Table, param_name};
 use c_numbers::NumberTable;

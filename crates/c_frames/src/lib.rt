@@ -1,5 +1,5 @@
 //! The formals and locals of a function of a C source: which there are, where each is kept, and what the function's core tree says
-//! of them. It stands on `c_locals`, `c_programs`, `c_core`, `c_operators` and `c_values`.
+//! of them. It stands on `c_locals`, `c_programs`, `core_tree`, `c_operators` and `c_values`.
 #![tactic(auto)]
 
 mod frames;

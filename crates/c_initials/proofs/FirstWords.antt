@@ -7,8 +7,8 @@ use Rattle.c_tree.specs.View.{init_of}
 use Rattle.c_types.specs.Standing.{no_target}
 use Rattle.rr_base.specs.declared.position.Position.{Position}
 use Rattle.std.specs.Global.{Box}
-use Rattle.c_core.specs.declared.value.Value.{Value}
-use Rattle.c_core.specs.View.{exp_of}
+use Rattle.core_tree.specs.declared.value.Value.{Value}
+use Rattle.core_tree.specs.View.{exp_of}
 use Rattle.c_operators.specs.declared.denoted.WordKind.{WordKind}
 use Rattle.c_operators.specs.Context.{Context}
 use Rattle.c_initials.specs.Initials.{zero_word, first_word, first_of_braces}

@@ -10,7 +10,7 @@ use Rattle.c_types.specs.Scopes.{Known, cells_of_some}
 use Rattle.c_types.specs.Standing.{Target, no_target}
 use Rattle.c_programs.specs.Initials.{part_at, part_type, value_target}
 use Rattle.rr_base.specs.declared.position.Position.{Position}
-use Rattle.c_core.specs.Core as core
+use Rattle.core_tree.specs.Core as core
 use Rattle.c_operators.specs.declared.home.Home.{Home}
 use Rattle.c_operators.specs.declared.home.Home.TheVariants as home
 use Rattle.c_operators.specs.Context.{Source, Context}

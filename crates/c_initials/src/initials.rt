@@ -4,13 +4,13 @@ ghost use Rattle.c_tree.specs.Tree.{listed_inits};
 ghost use Rattle.c_tree.specs.View.{init_of};
 ghost use Rattle.c_types.specs.Shown.{shown_maybe, shown_target};
 ghost use Rattle.c_programs.specs.Initials.{value_target};
-ghost use Rattle.c_core.specs.Core as core;
-ghost use Rattle.c_core.specs.View.{exp_of, stmt_of};
+ghost use Rattle.core_tree.specs.Core as core;
+ghost use Rattle.core_tree.specs.View.{exp_of, stmt_of};
 ghost use Rattle.c_values.specs.Expressions.{kind_of_type};
 ghost use Rattle.c_initials.specs.Initials as spec;
 ghost use Rattle.c_operators.specs.Views.{context_of, source_in};
 
-use c_core::{Statement, Value};
+use core_tree::{Statement, Value};
 use c_operators::{Context, Home, Source, WordKind, make};
 use c_programs::{part_at, ref_of, value_target};
 use c_tree::Initial;

@@ -1,5 +1,5 @@
 //! How a local of a C source begins that is declared with first values, and which cells an object of a type has. It stands
-//! on `c_core`, `c_operators` and `c_values`.
+//! on `core_tree`, `c_operators` and `c_values`.
 #![tactic(auto)]
 
 mod initials;

@@ -2,11 +2,11 @@
 use Rattle.std.proofs.Common.{◌≡◌, false, pos, Some, None, refl}
 use Rattle.rr_base.specs.declared.position.Position.{Position}
 use Rattle.rr_base.specs.Positions.{position_at}
-use Rattle.abstract_machine.specs.declared.operator.BinaryOp.TheVariants as flow
+use Rattle.word_semantics.specs.declared.operator.BinaryOp.TheVariants as flow
 use Rattle.c_types.specs.declared.types.BaseType.TheVariants as base
 use Rattle.c_types.specs.Types.{bare, int_type}
 use Rattle.c_types.specs.Operands.{zero_literal, null_literal, a_value, a_place, whole, zero_operand, null_operand, pointing, function_operand}
-use Rattle.c_core.specs.Core as core
+use Rattle.core_tree.specs.Core as core
 use Rattle.c_operators.specs.declared.denoted.WordKind.TheVariants as kind
 use Rattle.c_operators.specs.Denoted.{denoted_register, denoted_zero, denoted_null, denoted_value, Part, part_by, kind_of_both, wanted_in}
 use Rattle.c_operators.specs.Context.{function_word}

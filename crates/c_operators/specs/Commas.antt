@@ -3,7 +3,7 @@
 -- words none stands within more commas than n has binary digits.
 use Rattle.std.specs.Prelude.{List, [], ◌∷◌, Option, Some, None}
 use Rattle.rr_base.specs.declared.position.Position.{Position}
-use Rattle.c_core.specs.Core as core
+use Rattle.core_tree.specs.Core as core
 
 -- one word after another, whose value is let go
 abbrev pub following : Option core.Exp → Option core.Exp → Position → Option core.Exp

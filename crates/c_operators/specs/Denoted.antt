@@ -3,7 +3,7 @@ use Rattle.std.specs.Prelude.{ℕ, Bool, true, false, if◌then◌else◌, pos}
 use Rattle.rr_base.specs.declared.position.Position.{Position}
 use Rattle.c_types.specs.Operands.{Standing, no_type, zero_literal, null_literal, a_value, a_place, Operand, any_operand, whole, zero_operand, null_operand, pointing, function_operand, no_operand, operand_of, are_whole, are_functions}
 use Rattle.c_types.specs.Types.{layered_is_array}
-use Rattle.c_core.specs.Core as core
+use Rattle.core_tree.specs.Core as core
 use Rattle.c_operators.specs.declared.denoted.WordKind.{WordKind}
 use Rattle.c_operators.specs.declared.denoted.WordKind.TheVariants as kind
 

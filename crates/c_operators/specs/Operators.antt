@@ -1,8 +1,8 @@
 -- What C's operators make of their operands (C99 6.5). An operator is judged by what its operands are; which cases there
 -- are is decided by the types.
 use Rattle.std.specs.Prelude.{ℕ, Bool, true, false, ◌&&◌, if◌then◌else◌, pos}
-use Rattle.abstract_machine.specs.declared.operator.BinaryOp.{BinaryOp as FlowOp}
-use Rattle.abstract_machine.specs.declared.operator.BinaryOp.TheVariants as flow
+use Rattle.word_semantics.specs.declared.operator.BinaryOp.{BinaryOp as FlowOp}
+use Rattle.word_semantics.specs.declared.operator.BinaryOp.TheVariants as flow
 use Rattle.c_tree.specs.declared.expr.BinaryOp.{BinaryOp}
 use Rattle.c_tree.specs.declared.expr.BinaryOp.TheVariants as op
 use Rattle.c_tree.specs.declared.expr.PrefixOp.{PrefixOp}
@@ -11,10 +11,10 @@ use Rattle.c_tree.specs.declared.expr.AssignOp.{AssignOp}
 use Rattle.c_tree.specs.declared.expr.AssignOp.TheVariants as assign_op
 use Rattle.c_types.specs.Operands.{Operand, pointing, null_operand, is_whole, are_whole}
 use Rattle.rr_base.specs.declared.position.Position.{Position}
-use Rattle.c_core.specs.declared.value.UnaryOp.TheVariants as unary
-use Rattle.c_core.specs.declared.value.Change.{Change}
-use Rattle.c_core.specs.declared.value.Change.TheVariants as change
-use Rattle.c_core.specs.Core as core
+use Rattle.core_tree.specs.declared.value.UnaryOp.TheVariants as unary
+use Rattle.core_tree.specs.declared.value.Change.{Change}
+use Rattle.core_tree.specs.declared.value.Change.TheVariants as change
+use Rattle.core_tree.specs.Core as core
 use Rattle.c_operators.specs.declared.denoted.WordKind.TheVariants as kind
 use Rattle.c_operators.specs.Denoted.{Denoted, denoted_register, denoted_cells, denoted_zero, denoted_null, denoted_value, Part, operand_in, is_pointing, kind_of, kind_of_both, value_in, wanted_in}
 use Rattle.c_operators.specs.Context.{Source, element_of}

@@ -7,9 +7,9 @@ use Rattle.c_text.specs.Texts.{Text}
 use Rattle.c_types.specs.Shown.{shown_standing}
 use Rattle.c_names.specs.Table.{known_of}
 use Rattle.c_numbers.specs.NumberTables.{numbered_of}
-use Rattle.c_core.specs.declared.value.Value.{Value}
-use Rattle.c_core.specs.Core.{Exp}
-use Rattle.c_core.specs.View.{exp_of}
+use Rattle.core_tree.specs.declared.value.Value.{Value}
+use Rattle.core_tree.specs.Core.{Exp}
+use Rattle.core_tree.specs.View.{exp_of}
 use Rattle.c_operators.specs.declared.denoted.Denoted.{Denoted as RustDenoted}
 use Rattle.c_operators.specs.declared.denoted.Denoted.TheVariants as rust
 use Rattle.c_operators.specs.declared.denoted.Part.{Part as RustPart}

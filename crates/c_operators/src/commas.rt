@@ -1,11 +1,11 @@
 //! Expressions with commas between them (C99 6.5.17), joined so that none nests deep.
 ghost use Rattle.std.specs.Prelude.{◌≡◌, None, IfOk};
-ghost use Rattle.c_core.specs.View.{exp_of};
+ghost use Rattle.core_tree.specs.View.{exp_of};
 ghost use Rattle.c_operators.specs.Commas as spec;
 ghost use Rattle.c_operators.specs.Views.{maybe_word, places_of};
 
 use crate::make;
-use c_core::Value;
+use core_tree::Value;
 use rr_base::{List, Position};
 use std::alloc::{AllocError, Global};
 

@@ -1,13 +1,13 @@
 //! What stands for an expression of a source, and the word that it gives (C99 6.3.2).
 ghost use Rattle.std.specs.Prelude.{◌≡◌, IfOk};
 ghost use Rattle.c_types.specs.Shown.{shown_operand, shown_standing};
-ghost use Rattle.c_core.specs.View.{exp_of};
+ghost use Rattle.core_tree.specs.View.{exp_of};
 ghost use Rattle.c_operators.specs.Denoted as spec;
 ghost use Rattle.c_operators.specs.Views.{denoted_of, part_of};
 
 use crate::constant::Constant;
 use crate::make;
-use c_core::Value;
+use core_tree::Value;
 use c_types::{Operand, Standing, are_functions, are_whole, is_array};
 use rr_base::Position;
 use std::alloc::{AllocError, Global};

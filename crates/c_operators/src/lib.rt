@@ -1,5 +1,5 @@
 //! What the operators of a C source make of their operands, as core trees, and what is known where an expression stands. It
-//! stands on `c_constants`, `c_names`, `c_numbers` and `c_core`.
+//! stands on `c_constants`, `c_names`, `c_numbers` and `core_tree`.
 #![tactic(auto)]
 
 mod commas;

@@ -1,10 +1,10 @@
 //! Makes core trees of expressions of smaller ones.
 ghost use Rattle.std.specs.Prelude.{◌≡◌, IfOk, map};
-ghost use Rattle.c_core.specs.Core as core;
-ghost use Rattle.c_core.specs.View.{exp_of};
+ghost use Rattle.core_tree.specs.Core as core;
+ghost use Rattle.core_tree.specs.View.{exp_of};
 
-use abstract_machine::{BinaryOp, LibraryCall};
-use c_core::{Assignment, Call, Change, Choice, Operation, Simple, UnaryOp, Value};
+use word_semantics::{BinaryOp, LibraryCall};
+use core_tree::{Assignment, Call, Change, Choice, Operation, Simple, UnaryOp, Value};
 use rr_base::{List, Position, PtrWord};
 use std::alloc::{AllocError, Global};
 

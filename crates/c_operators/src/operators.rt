@@ -1,8 +1,8 @@
 //! What C's operators make of their operands (C99 6.5).
 ghost use Rattle.std.specs.Prelude.{◌≡◌, false, IfOk};
 ghost use Rattle.c_types.specs.Shown.{shown_operand};
-ghost use Rattle.c_core.specs.View.{exp_of};
-ghost use Rattle.c_core.specs.Core as core;
+ghost use Rattle.core_tree.specs.View.{exp_of};
+ghost use Rattle.core_tree.specs.Core as core;
 ghost use Rattle.c_operators.specs.Denoted.{denoted_value, value_in, wanted_in};
 ghost use Rattle.c_operators.specs.Operators as spec;
 ghost use Rattle.c_operators.specs.Views.{denoted_of, part_of, source_in};
@@ -10,8 +10,8 @@ ghost use Rattle.c_operators.specs.Views.{denoted_of, part_of, source_in};
 use crate::context::Source;
 use crate::denoted::{Denoted, Part, WordKind, is_pointing};
 use crate::make;
-use abstract_machine::BinaryOp as FlowOp;
-use c_core::{Change, UnaryOp, Value};
+use word_semantics::BinaryOp as FlowOp;
+use core_tree::{Change, UnaryOp, Value};
 use c_tree::{AssignOp, BinaryOp, PrefixOp};
 use c_types::{Operand, are_whole};
 use rr_base::Position;

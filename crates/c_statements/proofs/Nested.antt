@@ -5,7 +5,7 @@ use Rattle.rr_base.specs.declared.position.Position.{Position}
 use Rattle.c_types.specs.Scopes.{Known, opened}
 use Rattle.c_numbers.specs.Numbered.{Numbered, inside}
 use Rattle.c_locals.proofs.Numbering.{after_none, past_both}
-use Rattle.c_core.specs.Core as core
+use Rattle.core_tree.specs.Core as core
 use Rattle.c_operators.specs.Denoted.{position_of}
 use Rattle.c_operators.specs.Context.{Source, Frame, context_in}
 use Rattle.c_statements.specs.Statements.{context_inside, here_after_start, block_of, start_elaborated, maybe_value, elaborated, all_elaborated}

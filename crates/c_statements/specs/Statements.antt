@@ -11,7 +11,7 @@ use Rattle.c_programs.specs.Declarators.{declared_type}
 use Rattle.c_programs.specs.Statements.{after_declared, after_declares, after_start}
 use Rattle.c_numbers.specs.Numbered.{inside}
 use Rattle.c_locals.specs.Addresses.{after_name, after_declaration, after_for_start, past_statement}
-use Rattle.c_core.specs.Core as core
+use Rattle.core_tree.specs.Core as core
 use Rattle.c_operators.specs.declared.denoted.WordKind.{WordKind}
 use Rattle.c_operators.specs.declared.denoted.WordKind.TheVariants as kind
 use Rattle.c_operators.specs.Denoted.{position_of}

@@ -1,4 +1,4 @@
-//! What a statement of a C source does, as a core tree. It stands on `c_locals`, `c_core`, `c_operators`, `c_values` and
+//! What a statement of a C source does, as a core tree. It stands on `c_locals`, `core_tree`, `c_operators`, `c_values` and
 //! `c_initials`.
 #![tactic(auto)]
 

@@ -1,10 +1,10 @@
 //! Makes core trees of statements of smaller ones.
 ghost use Rattle.std.specs.Prelude.{◌≡◌, IfOk, map};
-ghost use Rattle.c_core.specs.Core as core;
-ghost use Rattle.c_core.specs.View.{exp_of, maybe_of, stmt_of};
+ghost use Rattle.core_tree.specs.Core as core;
+ghost use Rattle.core_tree.specs.View.{exp_of, maybe_of, stmt_of};
 ghost use Rattle.c_operators.specs.Views.{maybe_word};
 
-use c_core::{Statement, Value};
+use core_tree::{Statement, Value};
 use rr_base::{List, Position};
 use std::alloc::{AllocError, Global};
 

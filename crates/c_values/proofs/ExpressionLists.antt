@@ -12,7 +12,7 @@ use Rattle.c_types.specs.Operands.{Standing, no_type, zero_literal, null_literal
 use Rattle.c_types.specs.Standing.{Target, no_target, standing, let_go, following, last_standing, fits_wanted, fit_wanted, format_of, callee_of, callee_gives}
 use Rattle.c_rules.specs.Faults.{own_place, wants_of}
 use Rattle.c_rules.proofs.Judged as judged
-use Rattle.c_core.specs.Core as core
+use Rattle.core_tree.specs.Core as core
 use Rattle.c_operators.specs.Denoted.{Denoted, denoted_value, Part, part_by, value_in, position_of}
 use Rattle.c_operators.specs.Context.{Context}
 use Rattle.c_operators.specs.Commas.{with_last}

@@ -7,9 +7,9 @@ use Rattle.c_types.specs.declared.library.LibraryName.TheVariants as library
 use Rattle.c_types.specs.Scopes.{Known}
 use Rattle.c_tree.specs.Tree.{Exps}
 use Rattle.rr_base.specs.declared.position.Position.{Position}
-use Rattle.c_core.specs.declared.value.Value.{Value}
-use Rattle.c_core.specs.Core as core
-use Rattle.c_core.specs.View.{exp_of}
+use Rattle.core_tree.specs.declared.value.Value.{Value}
+use Rattle.core_tree.specs.Core as core
+use Rattle.core_tree.specs.View.{exp_of}
 use Rattle.c_values.specs.Calls.{pieces_from, first_of, library_called, library_of}
 
 pub pieces_at_end : (i : Inside) → pieces_from i [] ≡ []

@@ -3,10 +3,10 @@ use Rattle.std.proofs.Common.{◌≡◌, ℕ, List, [], ◌∷◌, Option, Some,
 use Rattle.rr_base.specs.declared.position.Position.{Position}
 use Rattle.sync_objects.specs.Setup.{SetupView}
 use Rattle.c_tree.specs.Tree.{Exps, no_exp, and_exp}
-use Rattle.c_core.specs.Core as core
-use Rattle.c_core.specs.Core.{Program}
-use Rattle.c_core.specs.Runs.{M, ◌>>◌}
-use Rattle.c_core.specs.Meaning.{Calls, value}
+use Rattle.core_tree.specs.Core as core
+use Rattle.core_tree.specs.Core.{Program}
+use Rattle.core_tree.specs.Runs.{M, ◌>>◌}
+use Rattle.core_tree.specs.Meaning.{Calls, value}
 use Rattle.c_operators.specs.Commas.{following, with_last, joined}
 use Rattle.c_operators.specs.Denoted.{position_of}
 use Rattle.c_operators.specs.Context.{Context}

@@ -2,10 +2,10 @@
 -- and the function with which a thread starts are no operands of a call.
 use Rattle.std.specs.Prelude.{ℕ, ◌==◌, nat_lt, Bool, false, if◌then◌else◌, pos, List, [], ◌∷◌, ◌++◌, map, Option, Some, None}
 use Rattle.c_text.specs.Texts.{Text}
-use Rattle.abstract_machine.specs.declared.library_call.LibraryCall.{LibraryCall}
-use Rattle.abstract_machine.specs.declared.library_call.LibraryCall.TheVariants as call
-use Rattle.abstract_machine.specs.declared.library_call.Piece.{Piece}
-use Rattle.abstract_machine.specs.declared.library_call.Piece.TheVariants as piece
+use Rattle.word_semantics.specs.declared.library_call.LibraryCall.{LibraryCall}
+use Rattle.word_semantics.specs.declared.library_call.LibraryCall.TheVariants as call
+use Rattle.word_semantics.specs.declared.library_call.Piece.{Piece}
+use Rattle.word_semantics.specs.declared.library_call.Piece.TheVariants as piece
 use Rattle.c_tree.specs.Tree.{Exp, Exps, and_exp, text}
 use Rattle.c_types.specs.declared.format.Inside.{Inside}
 use Rattle.c_types.specs.declared.format.Inside.TheVariants as inside
@@ -21,7 +21,7 @@ use Rattle.c_types.specs.Operands.{type_operand}
 use Rattle.c_types.specs.Library.{starred_type}
 use Rattle.c_names.specs.Started.{third_name}
 use Rattle.rr_base.specs.declared.position.Position.{Position}
-use Rattle.c_core.specs.Core as core
+use Rattle.core_tree.specs.Core as core
 use Rattle.c_operators.specs.declared.denoted.WordKind.{WordKind}
 use Rattle.c_operators.specs.Denoted.{Part, kind_of, value_in, wanted_in}
 use Rattle.c_operators.specs.Context.{function_counted, pointer_counted}

@@ -1,7 +1,7 @@
 -- The core tree of an expression (C99 6.5). One that is constant, and whose computing doesn't trap, is its value.
 use Rattle.std.specs.Prelude.{ℕ, Bool, true, false, if◌then◌else◌, pos, List, [], ◌∷◌, ◌++◌, Option, Some, None, Ok, Err}
 use Rattle.c_text.specs.Texts.{Text}
-use Rattle.abstract_machine.specs.declared.operator.BinaryOp.TheVariants as flow
+use Rattle.word_semantics.specs.declared.operator.BinaryOp.TheVariants as flow
 use Rattle.c_tree.specs.Tree.{Exp, comma, assign, conditional, binary, prefix, sizeof_exp, sizeof_type, cast, index, member, arrow, post_increment, post_decrement, named, call, number, letter, text, null, paren, Exps, no_exp, and_exp}
 use Rattle.rr_base.specs.declared.position.Position.{Position}
 use Rattle.c_types.specs.declared.types.ObjectType.{ObjectType}
@@ -14,7 +14,7 @@ use Rattle.c_types.specs.Operands.{a_place, operand_of, type_operand}
 use Rattle.c_types.specs.Library.{library_named}
 use Rattle.c_types.specs.Standing.{Target, no_target, assigned_target, cast_target, struct_of, pointed_struct, type_function, standing, format_of}
 use Rattle.c_rules.specs.Faults.{wants_of}
-use Rattle.c_core.specs.Core as core
+use Rattle.core_tree.specs.Core as core
 use Rattle.c_operators.specs.declared.home.Home.{Home}
 use Rattle.c_operators.specs.declared.home.Home.TheVariants as home
 use Rattle.c_operators.specs.declared.denoted.WordKind.{WordKind}

@@ -4,9 +4,9 @@ use Rattle.std.specs.Prelude.{◌≡◌, ℕ}
 use Rattle.rr_base.specs.declared.position.Position.{Position}
 use Rattle.sync_objects.specs.Setup.{SetupView}
 use Rattle.c_tree.specs.Tree.{Exp, comma, Exps, no_exp, and_exp}
-use Rattle.c_core.specs.Core.{Program}
-use Rattle.c_core.specs.Runs.{M, ◌>>◌}
-use Rattle.c_core.specs.Meaning.{Calls, value}
+use Rattle.core_tree.specs.Core.{Program}
+use Rattle.core_tree.specs.Runs.{M, ◌>>◌}
+use Rattle.core_tree.specs.Meaning.{Calls, value}
 use Rattle.c_operators.specs.Context.{Context}
 use Rattle.c_values.specs.Expressions.{value_of}
 

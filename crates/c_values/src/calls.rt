@@ -6,12 +6,12 @@ ghost use Rattle.c_tree.specs.View as tree;
 ghost use Rattle.c_types.specs.Signatures.{signature_numbered};
 ghost use Rattle.c_names.specs.Table.{known_of};
 ghost use Rattle.c_types.specs.declared.format.Inside.TheVariants as met;
-ghost use Rattle.c_core.specs.View.{exp_of};
+ghost use Rattle.core_tree.specs.View.{exp_of};
 ghost use Rattle.c_operators.specs.Views.{part_of};
 ghost use Rattle.c_values.specs.Calls as spec;
 
-use abstract_machine::{LibraryCall, Piece};
-use c_core::Value;
+use word_semantics::{LibraryCall, Piece};
+use core_tree::Value;
 use c_names::{Table, third_name};
 use c_operators::{Part, WordKind, function_counted, make, pointer_counted};
 use c_tree::Expr;

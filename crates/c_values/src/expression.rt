@@ -10,7 +10,7 @@ ghost use Rattle.c_types.specs.Standing as standings;
 ghost use Rattle.c_types.specs.Operands.{as_value, binary_standing};
 ghost use Rattle.c_types.specs.Standing.{no_target};
 ghost use Rattle.c_rules.specs.Faults as faults;
-ghost use Rattle.c_core.specs.View.{exp_of};
+ghost use Rattle.core_tree.specs.View.{exp_of};
 ghost use Rattle.c_operators.specs.Denoted.{denoted_value, operand_in, part_by, position_of, value_in};
 ghost use Rattle.c_operators.specs.Constants.{constant_of, no_constant, choice_constant, operation_constant, prefix_constant, cast_constant};
 ghost use Rattle.c_operators.specs.Context.{offset_in};
@@ -25,8 +25,8 @@ use crate::parts::{
     assignment, call_denoted, casting, changing, choice, element, member_in_part, member_through,
     one_more, operation, prefixing, sequence, stepping,
 };
-use abstract_machine::BinaryOp as FlowOp;
-use c_core::Value;
+use word_semantics::BinaryOp as FlowOp;
+use core_tree::Value;
 use c_operators::{Context, Part, WordKind, joined, push_last};
 use c_rules::{call_standing, fits_wanted, format_of, given_by_call, let_go, own_place, wants_of};
 use c_tree::{AssignOp, BinaryOp, CType, Expr, Name, PrefixOp};

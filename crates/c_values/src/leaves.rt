@@ -5,7 +5,7 @@ ghost use Rattle.c_types.specs.Numbers.{is_zero};
 ghost use Rattle.c_types.specs.Shown.{shown_standing};
 ghost use Rattle.c_types.specs.Scopes as scopes;
 ghost use Rattle.c_types.specs.Standing.{no_target, standing};
-ghost use Rattle.c_core.specs.Core as core;
+ghost use Rattle.core_tree.specs.Core as core;
 ghost use Rattle.c_operators.specs.Denoted.{denoted_null, denoted_value, denoted_zero, part_by};
 ghost use Rattle.c_operators.specs.Constants as spec_constants;
 ghost use Rattle.c_operators.specs.Context.{home_of};

@@ -1,4 +1,4 @@
-//! What an expression of a C source does, as a core tree. It stands on `c_rules`, `c_core` and `c_operators`.
+//! What an expression of a C source does, as a core tree. It stands on `c_rules`, `core_tree` and `c_operators`.
 #![tactic(auto)]
 
 mod calls;

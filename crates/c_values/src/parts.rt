@@ -9,7 +9,7 @@ ghost use Rattle.c_types.specs.Library as names;
 ghost use Rattle.c_types.specs.Scopes as scopes;
 ghost use Rattle.c_types.specs.Standing as standings;
 ghost use Rattle.c_types.specs.Operands.{as_value, binary_standing};
-ghost use Rattle.c_core.specs.View.{exp_of};
+ghost use Rattle.core_tree.specs.View.{exp_of};
 ghost use Rattle.c_operators.specs.Denoted.{denoted_value, operand_in, part_by, position_of, value_in};
 ghost use Rattle.c_operators.specs.Constants.{no_constant, choice_constant, operation_constant, prefix_constant, cast_constant};
 ghost use Rattle.c_operators.specs.Context as heres;
@@ -22,8 +22,8 @@ ghost use Rattle.c_values.specs.Tails as tails;
 
 use crate::calls::{function_called, library_called, pointer_called};
 use crate::leaves::variable;
-use abstract_machine::BinaryOp as FlowOp;
-use c_core::Value;
+use word_semantics::BinaryOp as FlowOp;
+use core_tree::Value;
 use c_operators::{
     Constant, Context, Denoted, Part, WordKind, arrow, assigned, binary, cast, conditional, index,
     is_pointing, make, member, prefix, site_at, stepped,

@@ -3,8 +3,8 @@ use Rattle.std.proofs.Common.{◌≡◌, ℕ, zero, suc, ◌+◌, ◌<◌, Bool,
 use Rattle.std.specs.List.{position_or_len}
 use Rattle.std.proofs.lemmas.Bool.Decides.{nat_tests}
 use Rattle.std.proofs.lemmas.List.Folds.{prefix_len-append}
-use Rattle.c_core.specs.Core.{Function, Pointer, Program}
-use Rattle.c_core.specs.Meaning.{Callee, defined, pointed, callees, is_main, main_of}
+use Rattle.core_tree.specs.Core.{Function, Pointer, Program}
+use Rattle.core_tree.specs.Meaning.{Callee, defined, pointed, callees, is_main, main_of}
 use Rattle.call_targets.specs.Resolved.{chooser, choosers, resolved}
 
 -- what doesn't tell a type from its chooser tells nothing apart

@@ -6,11 +6,11 @@ use Rattle.sync_objects.specs.declared.operation.Op.TheVariants as op
 use Rattle.rr_base.specs.declared.layout.CellKind.TheVariants as kind
 use Rattle.rr_base.specs.declared.trap.Trap.TheVariants as trap
 use Rattle.rr_base.specs.declared.position.Position.{Position}
-use Rattle.abstract_machine.specs.declared.operator.BinaryOp.TheVariants as binary_op
-use Rattle.abstract_machine.specs.declared.event.Action.TheVariants as action
-use Rattle.c_core.specs.Core.{Exp, number, null, register, load, binary, set_register, call, no_exp, and_exp, block, compute, branch, gives, no_statement, and_statement, Function, Pointer, Program}
-use Rattle.c_core.specs.Runs.{Event, events, done, trapped}
-use Rattle.c_core.specs.Meaning.{run_of}
+use Rattle.word_semantics.specs.declared.operator.BinaryOp.TheVariants as binary_op
+use Rattle.word_semantics.specs.declared.event.Action.TheVariants as action
+use Rattle.core_tree.specs.Core.{Exp, number, null, register, load, binary, set_register, call, no_exp, and_exp, block, compute, branch, gives, no_statement, and_statement, Function, Pointer, Program}
+use Rattle.core_tree.specs.Runs.{Event, events, done, trapped}
+use Rattle.core_tree.specs.Meaning.{run_of}
 use Rattle.call_targets.specs.Resolved.{chooser_name, resolved}
 
 abbrev at : ℕ → Position

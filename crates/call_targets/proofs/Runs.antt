@@ -9,15 +9,15 @@ use Rattle.rr_base.specs.declared.layout.CellKind.{CellKind}
 use Rattle.rr_base.specs.declared.layout.Site.{Site}
 use Rattle.rr_base.specs.declared.trap.Trap.TheVariants as trap
 use Rattle.rr_base.specs.Words.{site_of, offset_of, cell_of}
-use Rattle.abstract_machine.specs.declared.event.Action.TheVariants as action
-use Rattle.abstract_machine.specs.Library.{count_in}
-use Rattle.abstract_machine.specs.Cells.{argument_cell, access_kind}
-use Rattle.abstract_machine.specs.Pointers as pointers
-use Rattle.abstract_machine.specs.Pointers.{site_at, is_kind, kind_in, of_kind}
-use Rattle.abstract_machine.specs.Values.{word, truth}
-use Rattle.c_core.specs.Core.{listed, gives, listed_statements, Pointer, Program}
-use Rattle.c_core.specs.Runs.{Run, traps, ends, State, M, ◌>>=◌, ◌>>◌, pure, event, read_register, choose}
-use Rattle.c_core.specs.Meaning.{Calls, Completion, goes, word_given, line_given, enter, left, finish, place_of, returns, if_goes, Callee, defined, pointed, callees, is_start, function_word, target_of, line_of_callee, main_of, values, meaning, meanings, read_registers, load_in, target_called, body_of, called, calls_of, first_function, start, thread_of, run_of}
+use Rattle.word_semantics.specs.declared.event.Action.TheVariants as action
+use Rattle.word_semantics.specs.Library.{count_in}
+use Rattle.word_semantics.specs.Cells.{argument_cell, access_kind}
+use Rattle.word_semantics.specs.Pointers as pointers
+use Rattle.word_semantics.specs.Pointers.{site_at, is_kind, kind_in, of_kind}
+use Rattle.word_semantics.specs.Values.{word, truth}
+use Rattle.core_tree.specs.Core.{listed, gives, listed_statements, Pointer, Program}
+use Rattle.core_tree.specs.Runs.{Run, traps, ends, State, M, ◌>>=◌, ◌>>◌, pure, event, read_register, choose}
+use Rattle.core_tree.specs.Meaning.{Calls, Completion, goes, word_given, line_given, enter, left, finish, place_of, returns, if_goes, Callee, defined, pointed, callees, is_start, function_word, target_of, line_of_callee, main_of, values, meaning, meanings, read_registers, load_in, target_called, body_of, called, calls_of, first_function, start, thread_of, run_of}
 use Rattle.call_targets.specs.Resolved as target
 use Rattle.call_targets.specs.Resolved.{formals_from, choices, chooser, resolved}
 use Rattle.call_targets.proofs.Places.{callee_at, main_stays}

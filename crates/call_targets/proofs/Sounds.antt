@@ -4,13 +4,13 @@ use Rattle.std.proofs.lemmas.List.Sums.{sum_by-append}
 use Rattle.rr_base.proofs.Lists.{slice_get-append_found, slice_get-append_right}
 use Rattle.rr_base.specs.declared.position.Position.{Position}
 use Rattle.rr_base.specs.declared.layout.Site.{Site}
-use Rattle.abstract_machine.specs.declared.library_call.LibraryCall.{LibraryCall}
-use Rattle.abstract_machine.specs.declared.library_call.LibraryCall.TheVariants as library_call
-use Rattle.abstract_machine.specs.Pointers.{base_at}
-use Rattle.c_core.specs.Core as core
-use Rattle.c_core.specs.Core.{Exp, null, load, unary, binary, move, advance, member, between, to_pointer, to_number, copy, both, either, conditional, comma, set_register, store, change_register, change_cell, call, library, allocate, Exps, no_exp, and_exp, listed, Statement, block, compute, branch, branch_else, while_loop, do_loop, for_loop, break_at, continue_at, gives, Statements, no_statement, and_statement, listed_statements, Function, Pointer, Program}
-use Rattle.c_core.specs.Meaning.{is_main}
-use Rattle.c_core.specs.Sound.{IsFunction, IsPointerType, IsCallable, Starts, value_kinds, IsSoundExp, AreSound, IsSoundMaybe, IsSoundResult, IsSoundStatement, AreSoundStatements, IsSoundFunction, LiesAt, AreAtHome, IsSound}
+use Rattle.word_semantics.specs.declared.library_call.LibraryCall.{LibraryCall}
+use Rattle.word_semantics.specs.declared.library_call.LibraryCall.TheVariants as library_call
+use Rattle.word_semantics.specs.Pointers.{base_at}
+use Rattle.core_tree.specs.Core as core
+use Rattle.core_tree.specs.Core.{Exp, null, load, unary, binary, move, advance, member, between, to_pointer, to_number, copy, both, either, conditional, comma, set_register, store, change_register, change_cell, call, library, allocate, Exps, no_exp, and_exp, listed, Statement, block, compute, branch, branch_else, while_loop, do_loop, for_loop, break_at, continue_at, gives, Statements, no_statement, and_statement, listed_statements, Function, Pointer, Program}
+use Rattle.core_tree.specs.Meaning.{is_main}
+use Rattle.core_tree.specs.Sound.{IsFunction, IsPointerType, IsCallable, Starts, value_kinds, IsSoundExp, AreSound, IsSoundMaybe, IsSoundResult, IsSoundStatement, AreSoundStatements, IsSoundFunction, LiesAt, AreAtHome, IsSound}
 use Rattle.call_targets.specs.Resolved.{formals_from, choice, choices, chooser, choosers, resolved}
 use Rattle.call_targets.proofs.Places.{no_main}
 

@@ -2,8 +2,8 @@
 use Rattle.std.specs.Prelude.{ℕ, ◌+◌, Bool, false, pos, List, [], ◌∷◌, ◌++◌, length, map, codes, decimal, Some}
 use Rattle.c_text.specs.Texts.{Text}
 use Rattle.rr_base.specs.declared.position.Position.{Position}
-use Rattle.abstract_machine.specs.declared.operator.BinaryOp.TheVariants as binary_op
-use Rattle.c_core.specs.Core.{Exp, number, null, register, load, binary, call, listed, Statement, block, compute, branch, gives, listed_statements, Function, Pointer, Program}
+use Rattle.word_semantics.specs.declared.operator.BinaryOp.TheVariants as binary_op
+use Rattle.core_tree.specs.Core.{Exp, number, null, register, load, binary, call, listed, Statement, block, compute, branch, gives, listed_statements, Function, Pointer, Program}
 
 -- no C function has such a name
 abbrev pub chooser_name : ℕ → Text

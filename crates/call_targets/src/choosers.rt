@@ -1,11 +1,11 @@
 //! The functions that choose.
 ghost use Rattle.std.specs.Prelude.{◌≡◌, ◌+◌, ◌++◌, map, length, IfOk, OnOk};
-ghost use Rattle.c_core.specs.Core.{register as register_of};
-ghost use Rattle.c_core.specs.View.{exp_of, stmt_of, function_of, pointer_of};
+ghost use Rattle.core_tree.specs.Core.{register as register_of};
+ghost use Rattle.core_tree.specs.View.{exp_of, stmt_of, function_of, pointer_of};
 ghost use Rattle.call_targets.specs.Resolved as spec;
 
-use abstract_machine::BinaryOp;
-use c_core::{Call, CoreFunction, Operation, PointerType, Simple, Statement, Value};
+use word_semantics::BinaryOp;
+use core_tree::{Call, CoreFunction, Operation, PointerType, Simple, Statement, Value};
 use number_text::push_numbered;
 use rr_base::{Bytes, List, Position, sum};
 use std::alloc::{AllocError, Global};

@@ -1,9 +1,9 @@
 //! The laws of resolved core trees.
 ghost use Rattle.std.specs.Prelude.{◌≡◌, ℕ};
 ghost use Rattle.sync_objects.specs.Setup.{SetupView};
-ghost use Rattle.c_core.specs.Core.{Program};
-ghost use Rattle.c_core.specs.Meaning.{main_of, run_of};
-ghost use Rattle.c_core.specs.Sound.{IsSound};
+ghost use Rattle.core_tree.specs.Core.{Program};
+ghost use Rattle.core_tree.specs.Meaning.{main_of, run_of};
+ghost use Rattle.core_tree.specs.Sound.{IsSound};
 ghost use Rattle.call_targets.specs.Resolved.{resolved};
 
 /// Whatever is answered, each thread of a resolved core tree makes the events of the tree with its pointers, each with the

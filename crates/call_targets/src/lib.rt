@@ -1,5 +1,5 @@
 //! A core tree without pointers to functions: each call through one calls a function that chooses among the functions whose
-//! names are taken as values. It stands on `c_core`.
+//! names are taken as values. It stands on `core_tree`.
 #![tactic(auto)]
 
 mod choosers;

@@ -1,10 +1,10 @@
 //! Each call through a pointer becomes one of a function that chooses.
 ghost use Rattle.std.specs.Prelude.{◌≡◌, ◌++◌, [], map, IfOk, OnOk};
-ghost use Rattle.c_core.specs.View.{function_of, pointer_of, core_of};
+ghost use Rattle.core_tree.specs.View.{function_of, pointer_of, core_of};
 ghost use Rattle.call_targets.specs.Resolved as spec;
 
 use crate::choosers::chooser;
-use c_core::{Core, CoreFunction, PointerType};
+use core_tree::{Core, CoreFunction, PointerType};
 use rr_base::{List, sum};
 use std::alloc::{AllocError, Global};
 

@@ -5,20 +5,20 @@ use Rattle.std.proofs.lemmas.Option.{same_Some}
 use Rattle.sync_objects.specs.Setup.{SetupView, IsWithinLimits}
 use Rattle.sync_objects.specs.declared.entry.Entry.{Entry}
 use Rattle.flow_code.specs.declared.code.Code.{Code}
-use Rattle.thread_flow.specs.declared.access.Access.{Access}
+use Rattle.thread_interpreter.specs.declared.access.Access.{Access}
 use Rattle.core_run.specs.Machine.{Told, machine, start_state}
 use Rattle.core_run.specs.Walks.{walk_of}
 use Rattle.lock_sound.specs.Weakened.{Analysed, IsAnalysed}
 use Rattle.lock_sound.proofs.Running.{weakened_runs}
-use Rattle.runs.specs.Laws.{LoadOf, StoreOf, Conflict}
-use Rattle.runs.specs.Laws as laws
-use Rattle.runs.specs.Ordered.{event_access, event_at, event_thread, Ordered}
-use Rattle.runs.specs.Steps.{State}
-use Rattle.runs.proofs.InTime.{ordered_in_time, places}
+use Rattle.run_theory.specs.Laws.{LoadOf, StoreOf, Conflict}
+use Rattle.run_theory.specs.Laws as laws
+use Rattle.run_theory.specs.Ordered.{event_access, event_at, event_thread, Ordered}
+use Rattle.run_theory.specs.Steps.{State}
+use Rattle.run_theory.proofs.InTime.{ordered_in_time, places}
 use Rattle.core_run.proofs.Lawful.{lawful}
-use Rattle.source_runs.specs.WalkEvents.{labels_of_walk}
-use Rattle.source_runs.proofs.WalkRuns.{walk_is_run}
-use Rattle.access_order.proofs.Ordering.{ordered}
+use Rattle.lowering_simulation.specs.WalkEvents.{labels_of_walk}
+use Rattle.lowering_simulation.proofs.WalkRuns.{walk_is_run}
+use Rattle.happens_before.proofs.Ordering.{ordered}
 use Rattle.walk_accesses.specs.Accesses.{IsMadeAt, AccessIs}
 use Rattle.chain_report.specs.Accesses.{IsAccessOf}
 use Rattle.chain_report.specs.Chains.{is_chain}

@@ -8,14 +8,14 @@ use Rattle.sync_objects.specs.declared.entry.Noted.{Noted}
 use Rattle.flow_code.specs.declared.code.Code.{Code}
 use Rattle.core_run.specs.Machine.{Told, machine}
 use Rattle.core_run.specs.Walks.{walk_of}
-use Rattle.runs.specs.Labels.{Label, Go, label_of}
-use Rattle.runs.specs.Ordered.{Event, Did, event_of, event_at}
-use Rattle.runs.specs.Steps.{Machine, State, stepped, added, run}
-use Rattle.runs.specs.Walk.{alone}
-use Rattle.runs.proofs.InTime.{first_inv, more_inv, places}
-use Rattle.runs.proofs.Locked.{event_first, event_more}
-use Rattle.source_runs.specs.WalkEvents.{part_labels, labels_from}
-use Rattle.source_runs.proofs.WalkRuns.{then_inv, part_runs}
+use Rattle.run_theory.specs.Labels.{Label, Go, label_of}
+use Rattle.run_theory.specs.Ordered.{Event, Did, event_of, event_at}
+use Rattle.run_theory.specs.Steps.{Machine, State, stepped, added, run}
+use Rattle.run_theory.specs.Walk.{alone}
+use Rattle.run_theory.proofs.InTime.{first_inv, more_inv, places}
+use Rattle.run_theory.proofs.Locked.{event_first, event_more}
+use Rattle.lowering_simulation.specs.WalkEvents.{part_labels, labels_from}
+use Rattle.lowering_simulation.proofs.WalkRuns.{then_inv, part_runs}
 use Rattle.chain_report.proofs.Spots.{event_past, First, first_of, spot, turns, nothing_inv, labels_are, labels_split, spot_later, part_length, spots_ascend}
 use Rattle.chain_report.proofs.Shown.{adds}
 

@@ -25,16 +25,16 @@ use Rattle.core_run.specs.Machine.{Told, machine, start_state}
 use Rattle.core_run.specs.Walks.{walk_of}
 use Rattle.core_run.specs.Words.{has_object}
 use Rattle.core_run.proofs.Lawful.{lawful}
-use Rattle.runs.specs.Labels.{label_of}
-use Rattle.runs.specs.Ordered.{Event, Did, event_at, event_thread, IsRelease, by_unlock, by_give, by_revoke, by_write_unlock, by_read_unlock, IsAcquire, by_lock, by_trylock, by_take, by_retake, by_write_lock, by_read_lock, HandsOver, release_to_acquire, start_to_begin, end_to_join, PassesTo, Link, Ordered, last, more}
-use Rattle.runs.specs.Same.{same_object}
-use Rattle.runs.specs.Steps.{State, count_of}
-use Rattle.runs.proofs.InTime.{passes_in_time, places}
-use Rattle.runs.proofs.SameEntries.{same_object-refl}
-use Rattle.held_locks.specs.Holders.{word_of_object, shared, IsExclusive}
-use Rattle.held_locks.proofs.RwMoves.{rw_in}
-use Rattle.held_locks.proofs.RwStates.{exclusive_at}
-use Rattle.source_runs.specs.WalkEvents.{labels_of_walk}
+use Rattle.run_theory.specs.Labels.{label_of}
+use Rattle.run_theory.specs.Ordered.{Event, Did, event_at, event_thread, IsRelease, by_unlock, by_give, by_revoke, by_write_unlock, by_read_unlock, IsAcquire, by_lock, by_trylock, by_take, by_retake, by_write_lock, by_read_lock, HandsOver, release_to_acquire, start_to_begin, end_to_join, PassesTo, Link, Ordered, last, more}
+use Rattle.run_theory.specs.Same.{same_object}
+use Rattle.run_theory.specs.Steps.{State, count_of}
+use Rattle.run_theory.proofs.InTime.{passes_in_time, places}
+use Rattle.run_theory.proofs.SameEntries.{same_object-refl}
+use Rattle.lock_ownership.specs.Holders.{word_of_object, shared, IsExclusive}
+use Rattle.lock_ownership.proofs.RwMoves.{rw_in}
+use Rattle.lock_ownership.proofs.RwStates.{exclusive_at}
+use Rattle.lowering_simulation.specs.WalkEvents.{labels_of_walk}
 use Rattle.chain_report.specs.Accesses.{IsAccessOf}
 use Rattle.chain_report.specs.Chains.{exclude, hands_thread, passes_to, passes_entries, passes, is_after, is_before, is_of_one, goes_on, ends, chain_from, is_chain}
 use Rattle.chain_report.specs.Replayed.{holder_over, hold_over, unless_held, released_by, released, acquired_by, acquired}

@@ -14,8 +14,8 @@ use Rattle.sync_objects.specs.declared.operation.Op.{Op}
 use Rattle.sync_objects.specs.declared.operation.Op.TheVariants as op
 use Rattle.sync_objects.specs.declared.operation.OpName.TheVariants as name
 use Rattle.sync_objects.proofs.RowsOf.{lock_rows, try_lock_rows, unlock_rows, mutex_init_rows}
-use Rattle.held_locks.proofs.RwBits.{joins_own, no_reader}
-use Rattle.held_locks.proofs.RwMoves.{rw_in, RwMove, rw_move, others_hold}
+use Rattle.lock_ownership.proofs.RwBits.{joins_own, no_reader}
+use Rattle.lock_ownership.proofs.RwMoves.{rw_in, RwMove, rw_move, others_hold}
 use Rattle.chain_report.specs.Replayed.{holder_after, hold_after}
 
 -- ---- mutexes

@@ -3,7 +3,7 @@ use Rattle.std.proofs.Common.{◌≡◌, ℕ, zero, suc, ◌+◌, ◌<◌, nat_l
 use Rattle.std.specs.Prelude.{slice_get}
 use Rattle.std.proofs.lemmas.Bool.{and_parts, true≢false, ltb-true, lt-ltb, eqb-true, eq-eqb}
 use Rattle.std.proofs.lemmas.Option.{same_Some, slice_get_within}
-use Rattle.runs.proofs.InTime.{places}
+use Rattle.run_theory.proofs.InTime.{places}
 use Rattle.sync_objects.specs.declared.entry.Entry.{Entry}
 use Rattle.chain_report.specs.Chains.{passes, is_after, is_before, is_of_one, goes_on, ends, chain_from, is_chain}
 use Rattle.chain_report.specs.Finds.{IsLinked, at_first, onward, IsEligible, after, behind, IsLinkedTo, EndsAt, IsLowestFrom, IsLowest}

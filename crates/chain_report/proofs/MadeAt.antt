@@ -12,30 +12,30 @@ use Rattle.sync_objects.specs.declared.object.ObjId.{ObjId}
 use Rattle.sync_objects.specs.declared.object.ObjId.TheVariants as object
 use Rattle.sync_objects.specs.declared.operation.Op.{Op}
 use Rattle.sync_objects.specs.declared.operation.Op.TheVariants as op
-use Rattle.abstract_machine.specs.declared.event.Action.{Action}
-use Rattle.abstract_machine.specs.declared.event.Action.TheVariants as action
+use Rattle.word_semantics.specs.declared.event.Action.{Action}
+use Rattle.word_semantics.specs.declared.event.Action.TheVariants as action
 use Rattle.flow_code.specs.Threads.{Thread}
 use Rattle.flow_code.specs.Next.{stepped as thread_stepped, action_at, gave_up, stopped, slot_closed}
 use Rattle.flow_code.specs.Settle.{settled}
 use Rattle.flow_code.proofs.Counts.{settled_count}
-use Rattle.thread_flow.specs.Pieces.{piece_next}
+use Rattle.thread_interpreter.specs.Pieces.{piece_next}
 use Rattle.core_run.specs.Words.{cells_of, has_object}
 use Rattle.core_run.proofs.Lawful.{effect_go, effect_revoke, effect_stop, effect_close, change_is}
 use Rattle.std.proofs.lemmas.List.Elements.{Contains-append_cases}
-use Rattle.runs.proofs.Swap.{Steps, load_inv, change_inv, steps_of}
-use Rattle.runs.proofs.Locked.{event_first, event_more}
+use Rattle.run_theory.proofs.Swap.{Steps, load_inv, change_inv, steps_of}
+use Rattle.run_theory.proofs.Locked.{event_first, event_more}
 use Rattle.walk_accesses.proofs.Lists.{none, only_one}
 use Rattle.flow_code.specs.declared.code.Code.{Code}
-use Rattle.thread_flow.specs.declared.access.Access.{Access}
+use Rattle.thread_interpreter.specs.declared.access.Access.{Access}
 use Rattle.core_run.specs.Machine.{Told, access_of, entry_of, operation, action_effect, may_revoke, may_stop, may_close, effect_of, machine, start_state, start_told, start_threads_from}
 use Rattle.core_run.specs.Walks.{walk_of}
-use Rattle.runs.specs.Labels.{Label, Go, Revoke, Stop, Close, label_thread}
-use Rattle.runs.specs.Laws.{NoAccess, LoadOf, StoreOf}
-use Rattle.runs.specs.Laws as laws
-use Rattle.runs.specs.Ordered.{Event, Loaded, Stored, event_thread, event_access, effect_event, event_of_thread, event_of, event_at, state_at}
-use Rattle.runs.specs.Steps.{Change, Becomes, Leaves, Effect, Refused, Marks, Loads, Stores, Operates, State, outcome, stepped, run, count_or_zero, count_of}
-use Rattle.source_runs.specs.WalkEvents.{labels_of_walk}
-use Rattle.source_runs.proofs.WalkRuns.{then_inv, walk_is_run}
+use Rattle.run_theory.specs.Labels.{Label, Go, Revoke, Stop, Close, label_thread}
+use Rattle.run_theory.specs.Laws.{NoAccess, LoadOf, StoreOf}
+use Rattle.run_theory.specs.Laws as laws
+use Rattle.run_theory.specs.Ordered.{Event, Loaded, Stored, event_thread, event_access, effect_event, event_of_thread, event_of, event_at, state_at}
+use Rattle.run_theory.specs.Steps.{Change, Becomes, Leaves, Effect, Refused, Marks, Loads, Stores, Operates, State, outcome, stepped, run, count_or_zero, count_of}
+use Rattle.lowering_simulation.specs.WalkEvents.{labels_of_walk}
+use Rattle.lowering_simulation.proofs.WalkRuns.{then_inv, walk_is_run}
 use Rattle.walk_accesses.specs.Accesses.{IsMadeAt}
 use Rattle.chain_report.specs.Accesses.{IsAccessOf}
 use Rattle.chain_report.specs.declared.point.Point.{Point}

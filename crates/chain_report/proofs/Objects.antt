@@ -4,7 +4,7 @@ use Rattle.std.specs.Map.{lookup}
 use Rattle.std.specs.Option.{option_map_or, unwrap_or}
 use Rattle.sync_objects.specs.declared.object.ObjId.{ObjId}
 use Rattle.sync_objects.specs.contracts.object.ObjIdPartialEq.TheImpl as object_test
-use Rattle.runs.specs.Same.{same_object}
+use Rattle.run_theory.specs.Same.{same_object}
 use Rattle.chain_report.specs.Past.{same_hold}
 use Rattle.chain_report.specs.contracts.kept.HoldPartialEq.TheImpl as hold_test
 use Rattle.chain_report.specs.declared.kept.Hold.{Hold}

@@ -11,19 +11,19 @@ use Rattle.flow_code.specs.Settle.{IsRunnable}
 use Rattle.core_run.specs.Machine.{Told, machine, start_state}
 use Rattle.core_run.specs.Walks.{walk_of}
 use Rattle.core_run.proofs.Lawful.{lawful}
-use Rattle.runs.specs.Labels.{Label, Go, label_thread, label_of}
-use Rattle.runs.specs.Laws.{NoAccess}
-use Rattle.runs.specs.Ordered.{Event, Did, event_access, event_thread, event_of, event_at, state_at, PassesTo, Link, Ordered, last, more}
-use Rattle.runs.specs.Steps.{State, stepped, added, run, count_or_zero, count_of}
-use Rattle.runs.proofs.Apart.{adds_cases}
-use Rattle.runs.proofs.Counts.{counted, entry_law_at}
-use Rattle.runs.proofs.Grows.{run_grows}
-use Rattle.runs.proofs.InTime.{places}
-use Rattle.runs.proofs.Swap.{steps_of}
-use Rattle.held_locks.specs.Holders.{word_of_object}
-use Rattle.held_locks.proofs.Stepping.{event_is_own, has_stepped}
-use Rattle.held_locks.proofs.Turns.{Place, place_at, along}
-use Rattle.source_runs.specs.WalkEvents.{labels_of_walk}
+use Rattle.run_theory.specs.Labels.{Label, Go, label_thread, label_of}
+use Rattle.run_theory.specs.Laws.{NoAccess}
+use Rattle.run_theory.specs.Ordered.{Event, Did, event_access, event_thread, event_of, event_at, state_at, PassesTo, Link, Ordered, last, more}
+use Rattle.run_theory.specs.Steps.{State, stepped, added, run, count_or_zero, count_of}
+use Rattle.run_theory.proofs.Apart.{adds_cases}
+use Rattle.run_theory.proofs.Counts.{counted, entry_law_at}
+use Rattle.run_theory.proofs.Grows.{run_grows}
+use Rattle.run_theory.proofs.InTime.{places}
+use Rattle.run_theory.proofs.Swap.{steps_of}
+use Rattle.lock_ownership.specs.Holders.{word_of_object}
+use Rattle.lock_ownership.proofs.Stepping.{event_is_own, has_stepped}
+use Rattle.lock_ownership.proofs.Turns.{Place, place_at, along}
+use Rattle.lowering_simulation.specs.WalkEvents.{labels_of_walk}
 use Rattle.chain_report.specs.Accesses.{IsAccessOf, AreInOrder}
 use Rattle.chain_report.specs.Chains.{passes, is_after, is_before, is_of_one, goes_on, ends, chain_from, is_chain}
 use Rattle.chain_report.specs.declared.point.Point.{Point}

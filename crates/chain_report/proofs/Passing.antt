@@ -27,16 +27,16 @@ use Rattle.core_run.specs.Machine.{Told, machine, start_state}
 use Rattle.core_run.specs.Walks.{walk_of}
 use Rattle.core_run.specs.Words.{has_object}
 use Rattle.core_run.proofs.Lawful.{lawful}
-use Rattle.runs.specs.Labels.{label_thread, label_of}
-use Rattle.runs.specs.Ordered.{Event, Did, event_at, state_at, IsRelease, by_unlock, by_give, by_revoke, by_write_unlock, by_read_unlock, IsAcquire, by_lock, by_trylock, by_take, by_retake, by_write_lock, by_read_lock, HandsOver, release_to_acquire, start_to_begin, end_to_join, PassesTo}
-use Rattle.runs.specs.Same.{same_object}
-use Rattle.runs.specs.Steps.{State}
-use Rattle.runs.proofs.InTime.{ascends_at}
-use Rattle.runs.proofs.SameEntries.{same_object-true}
-use Rattle.held_locks.specs.Holders.{word_of_object, holder, shared}
-use Rattle.held_locks.proofs.ObjectSteps.{OperatesOn}
-use Rattle.held_locks.proofs.RwMoves.{rw_in}
-use Rattle.source_runs.specs.WalkEvents.{labels_of_walk}
+use Rattle.run_theory.specs.Labels.{label_thread, label_of}
+use Rattle.run_theory.specs.Ordered.{Event, Did, event_at, state_at, IsRelease, by_unlock, by_give, by_revoke, by_write_unlock, by_read_unlock, IsAcquire, by_lock, by_trylock, by_take, by_retake, by_write_lock, by_read_lock, HandsOver, release_to_acquire, start_to_begin, end_to_join, PassesTo}
+use Rattle.run_theory.specs.Same.{same_object}
+use Rattle.run_theory.specs.Steps.{State}
+use Rattle.run_theory.proofs.InTime.{ascends_at}
+use Rattle.run_theory.proofs.SameEntries.{same_object-true}
+use Rattle.lock_ownership.specs.Holders.{word_of_object, holder, shared}
+use Rattle.lock_ownership.proofs.ObjectSteps.{OperatesOn}
+use Rattle.lock_ownership.proofs.RwMoves.{rw_in}
+use Rattle.lowering_simulation.specs.WalkEvents.{labels_of_walk}
 use Rattle.chain_report.specs.Chains.{exclude, hands_thread, passes_to, passes_entries, passes}
 use Rattle.chain_report.specs.Replayed.{holder_over, hold_over, unless_held, released_by, released, acquired_by, acquired}
 use Rattle.chain_report.proofs.LockMoves.{lock_in, as_lock, trylock_gets, HoldIs, rdlock_gets, wrlock_gets, reads_it}

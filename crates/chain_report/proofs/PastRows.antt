@@ -5,8 +5,8 @@ use Rattle.std.specs.Option.{is_some}
 use Rattle.std.proofs.lemmas.Bool.{and_parts, true≢false, eqb-true, eq-eqb}
 use Rattle.std.proofs.lemmas.List.{length-append}
 use Rattle.rr_base.proofs.Lists.{slice_get-set_other, slice_get-set_same}
-use Rattle.runs.specs.Same.{same_object}
-use Rattle.runs.proofs.SameEntries.{same_object-true, same_object-refl}
+use Rattle.run_theory.specs.Same.{same_object}
+use Rattle.run_theory.proofs.SameEntries.{same_object-true, same_object-refl}
 use Rattle.sync_objects.specs.declared.entry.Entry.{Entry}
 use Rattle.sync_objects.specs.declared.mode.Mode.{Mode}
 use Rattle.sync_objects.specs.declared.mode.Mode.TheVariants.{Read, Write}

@@ -5,7 +5,7 @@ use Rattle.std.proofs.lemmas.Bool.{and_parts, true≢false, ltb-true, lt-ltb, eq
 use Rattle.std.proofs.lemmas.List.{length-append}
 use Rattle.std.proofs.lemmas.Option.{same_Some, slice_get_within}
 use Rattle.rr_base.proofs.Lists.{slice_get-append_left, slice_get-append_right}
-use Rattle.runs.specs.Same.{same_object}
+use Rattle.run_theory.specs.Same.{same_object}
 use Rattle.sync_objects.specs.declared.entry.Entry.{Entry}
 use Rattle.sync_objects.specs.declared.mode.Mode.{Mode}
 use Rattle.chain_report.specs.Chains.{exclude, hands_thread, passes_to, passes_entries, passes, is_after, is_before, is_of_one, goes_on, ends, chain_from, is_chain}

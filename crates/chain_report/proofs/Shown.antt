@@ -23,20 +23,20 @@ use Rattle.core_run.specs.Walks.{walk_of}
 use Rattle.core_run.specs.Words.{cells_of, has_object, place_of, start_words}
 use Rattle.core_run.proofs.Beginnings.{start_word_at}
 use Rattle.core_run.proofs.Lawful.{lawful}
-use Rattle.runs.specs.Labels.{Label, label_thread, label_of}
-use Rattle.runs.specs.Ordered.{Did, operation_event, effect_event, event_of_thread, event_of, state_at}
-use Rattle.runs.specs.Same.{same_object}
-use Rattle.runs.specs.Steps.{Change, NotAllowed, Becomes, Leaves, Effect, Refused, Marks, Loads, Stores, Operates, Machine, State, outcome, stepped, added, effect_entry, entry_of_thread, number_at}
-use Rattle.runs.proofs.Apart.{thread_of_label}
-use Rattle.runs.proofs.Counts.{EntryLaw, entry_law_at}
-use Rattle.runs.proofs.SameEntries.{object_cases, same_object-refl, same_object-ne}
-use Rattle.runs.proofs.Swap.{Steps, steps_of, change_inv}
-use Rattle.held_locks.specs.Holders.{word_of_object, holder, shared}
-use Rattle.held_locks.proofs.MutexHolders.{start_free}
-use Rattle.held_locks.proofs.ObjectSteps.{LeavesAlone, OperatesOn, ObjectStep, object_step}
-use Rattle.held_locks.proofs.RwMoves.{rw_in}
-use Rattle.held_locks.proofs.Stepping.{has_stepped}
-use Rattle.source_runs.specs.WalkEvents.{labels_of_walk}
+use Rattle.run_theory.specs.Labels.{Label, label_thread, label_of}
+use Rattle.run_theory.specs.Ordered.{Did, operation_event, effect_event, event_of_thread, event_of, state_at}
+use Rattle.run_theory.specs.Same.{same_object}
+use Rattle.run_theory.specs.Steps.{Change, NotAllowed, Becomes, Leaves, Effect, Refused, Marks, Loads, Stores, Operates, Machine, State, outcome, stepped, added, effect_entry, entry_of_thread, number_at}
+use Rattle.run_theory.proofs.Apart.{thread_of_label}
+use Rattle.run_theory.proofs.Counts.{EntryLaw, entry_law_at}
+use Rattle.run_theory.proofs.SameEntries.{object_cases, same_object-refl, same_object-ne}
+use Rattle.run_theory.proofs.Swap.{Steps, steps_of, change_inv}
+use Rattle.lock_ownership.specs.Holders.{word_of_object, holder, shared}
+use Rattle.lock_ownership.proofs.MutexHolders.{start_free}
+use Rattle.lock_ownership.proofs.ObjectSteps.{LeavesAlone, OperatesOn, ObjectStep, object_step}
+use Rattle.lock_ownership.proofs.RwMoves.{rw_in}
+use Rattle.lock_ownership.proofs.Stepping.{has_stepped}
+use Rattle.lowering_simulation.specs.WalkEvents.{labels_of_walk}
 use Rattle.chain_report.specs.Replayed.{holder_step, holder_over, hold_step, hold_over, hold_after, holder_after}
 use Rattle.chain_report.proofs.LockMoves.{as_lock, lock_in, mutex_moves, HoldIs, own_moves, others_stay, unheld}
 use Rattle.chain_report.proofs.Spots.{Makes, spot, shown_at}

@@ -10,16 +10,16 @@ use Rattle.flow_code.specs.declared.code.Code.{Code}
 use Rattle.core_run.specs.Histories.{IsReachable}
 use Rattle.core_run.specs.Machine.{Told, machine, start_state}
 use Rattle.core_run.specs.Walks.{walk_of}
-use Rattle.runs.specs.Labels.{Label, Go, label_of}
-use Rattle.runs.specs.Ordered.{event_of, event_at, state_at}
-use Rattle.runs.specs.Same.{same_entry}
-use Rattle.runs.specs.Steps.{Machine, State, stepped, added, run, count_of}
-use Rattle.runs.specs.Walk.{if_nothing, if_only, alone, made, part}
-use Rattle.runs.proofs.Kept.{reaches_step, reaches_more}
-use Rattle.runs.proofs.Locked.{event_first, event_more}
-use Rattle.runs.proofs.SameEntries.{same_entry-true}
-use Rattle.source_runs.specs.WalkEvents.{part_labels, labels_on, labels_from}
-use Rattle.source_runs.proofs.WalkRuns.{then_inv, part_runs}
+use Rattle.run_theory.specs.Labels.{Label, Go, label_of}
+use Rattle.run_theory.specs.Ordered.{event_of, event_at, state_at}
+use Rattle.run_theory.specs.Same.{same_entry}
+use Rattle.run_theory.specs.Steps.{Machine, State, stepped, added, run, count_of}
+use Rattle.run_theory.specs.Walk.{if_nothing, if_only, alone, made, part}
+use Rattle.run_theory.proofs.Kept.{reaches_step, reaches_more}
+use Rattle.run_theory.proofs.Locked.{event_first, event_more}
+use Rattle.run_theory.proofs.SameEntries.{same_entry-true}
+use Rattle.lowering_simulation.specs.WalkEvents.{part_labels, labels_on, labels_from}
+use Rattle.lowering_simulation.proofs.WalkRuns.{then_inv, part_runs}
 
 -- ---- one run after another
 

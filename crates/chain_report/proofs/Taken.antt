@@ -8,8 +8,8 @@ use Rattle.sync_objects.specs.declared.mode.Mode.{Mode}
 use Rattle.sync_objects.specs.declared.mode.Mode.TheVariants.{Read, Write}
 use Rattle.sync_objects.specs.declared.operation.Op.TheVariants as op
 use Rattle.sync_objects.proofs.RowsOf.{try_lock_rows}
-use Rattle.held_locks.specs.Holders.{IsExclusive}
-use Rattle.held_locks.proofs.RwBits.{no_reader}
+use Rattle.lock_ownership.specs.Holders.{IsExclusive}
+use Rattle.lock_ownership.proofs.RwBits.{no_reader}
 use Rattle.chain_report.proofs.LockMoves.{as_lock, HoldIs, is_writing, is_held}
 
 -- who got a mutex by a trylock found it free

@@ -3,10 +3,10 @@ use Rattle.std.specs.Prelude.{◌≡◌, ◌≢◌, ℕ, List, Some}
 use Rattle.core_run.specs.Machine.{Told, machine, start_state}
 use Rattle.core_run.specs.Walks.{walk_of}
 use Rattle.flow_code.specs.declared.code.Code.{Code}
-use Rattle.runs.specs.Laws.{NoAccess}
-use Rattle.runs.specs.Ordered.{Event, event_access, event_at, event_thread, Ordered, state_at}
-use Rattle.runs.specs.Steps.{State, count_of}
-use Rattle.source_runs.specs.WalkEvents.{labels_of_walk}
+use Rattle.run_theory.specs.Laws.{NoAccess}
+use Rattle.run_theory.specs.Ordered.{Event, event_access, event_at, event_thread, Ordered, state_at}
+use Rattle.run_theory.specs.Steps.{State, count_of}
+use Rattle.lowering_simulation.specs.WalkEvents.{labels_of_walk}
 use Rattle.sync_objects.specs.Setup.{SetupView}
 use Rattle.sync_objects.specs.declared.entry.Entry.{Entry}
 use Rattle.chain_report.specs.declared.point.Point.{Point}

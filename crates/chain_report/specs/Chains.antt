@@ -1,6 +1,6 @@
 -- Chains over the entries of a log: each link is an operation that passes its object to a later one.
 use Rattle.std.specs.Prelude.{ℕ, nat_lt, nat_le, ◌==◌, ◌&&◌, ◌||◌, Bool, true, false, List, [], ◌∷◌, take, Option, Some, None, slice_get}
-use Rattle.runs.specs.Same.{same_object}
+use Rattle.run_theory.specs.Same.{same_object}
 use Rattle.sync_objects.specs.Modes.{excludes}
 use Rattle.sync_objects.specs.declared.entry.Entry.{Entry}
 use Rattle.sync_objects.specs.declared.mode.Mode.{Mode}

@@ -4,10 +4,10 @@ use Rattle.std.specs.Prelude.{◌≡◌, ◌≢◌, ℕ, ◌<◌, ◌||◌, Bool
 use Rattle.core_run.specs.Machine.{Told, start_state}
 use Rattle.core_run.specs.Walks.{IsRefusedAt, IsUnfinished, IsWhole}
 use Rattle.flow_code.specs.declared.code.Code.{Code}
-use Rattle.runs.specs.Steps.{State}
+use Rattle.run_theory.specs.Steps.{State}
 use Rattle.sync_objects.specs.Setup.{SetupView}
 use Rattle.sync_objects.specs.declared.entry.Entry.{Entry}
-use Rattle.thread_flow.specs.declared.access.Access.{Access}
+use Rattle.thread_interpreter.specs.declared.access.Access.{Access}
 use Rattle.walk_accesses.specs.Accesses.{IsMadeAt}
 use Rattle.chain_report.specs.Accesses.{IsAccessOf}
 use Rattle.chain_report.specs.Chains.{passes, is_after, is_before, is_of_one, is_chain}

@@ -12,7 +12,7 @@ use lock_sound::Weakened;
 use rr_base::List;
 use std::alloc::{AllocError, Global};
 use sync_objects::{Entry, Setup};
-use thread_flow::{Access, Formula};
+use thread_interpreter::{Access, Formula};
 use walk_accesses::access_at;
 
 // Where the walk is wrong, if it is.

@@ -1,5 +1,5 @@
 //! Why one access of a recorded run came before another: a chain of operations, each of which passes its object to the next. It
-//! stands on `held_locks`, `source_runs`, `access_order` and `walk_accesses`. It promises that `find` gives the lowest chain between
+//! stands on `lock_ownership`, `lowering_simulation`, `happens_before` and `walk_accesses`. It promises that `find` gives the lowest chain between
 //! any two conflicting accesses of a walk on weakened code, that `is_chain` accepts it, and that what `is_chain` accepts orders the
 //! two accesses.
 #![tactic(auto)]

@@ -1,7 +1,7 @@
 -- How the program may end.
 use Rattle.std.specs.Prelude.{ℕ, List, None}
-use Rattle.answers.specs.Jobs.{job_of}
-use Rattle.outcomes.specs.Endings.{Ends, Outside}
+use Rattle.command_line.specs.Jobs.{job_of}
+use Rattle.job_outcomes.specs.Endings.{Ends, Outside}
 use Rattle.jobs.specs.Asks.{AsksCrew, AsksInput}
 use Rattle.jobs.specs.Jobs.{IsOutcome, PutsBefore, UsesShelf}
 use Rattle.job_runs.specs.Works.{Work}

@@ -1,6 +1,6 @@
 // Calls of the jobs, and what is compared after them.
 use crew::Crew;
-use job_samples::outside::{Outside, input_of, owned, sink_of};
+use samples::outside::{Outside, input_of, owned, sink_of};
 use jobs::chimera;
 use rr_base::MemShelf;
 use std::alloc::Global;

@@ -13,7 +13,7 @@ mod outside_tests;
 #[cfg(test)]
 mod thread_tests;
 
-use answers::{FileShelf, InSource, OutSink};
+use command_line::{FileShelf, InSource, OutSink};
 use crew::ScopeCrew;
 use jobs::chimera;
 use std::alloc::Global;

@@ -1,8 +1,8 @@
 use crate::checks::check_on;
-use job_samples::bank::{BANK, BANK_LOG};
-use job_samples::outside::{Outside, SOUND, crew_of};
-use job_samples::shelves::push_file;
-use job_samples::sources::HELD_BY_CALLER;
+use samples::bank::{BANK, BANK_LOG};
+use samples::outside::{Outside, SOUND, crew_of};
+use samples::shelves::push_file;
+use samples::sources::HELD_BY_CALLER;
 use rr_base::{Bytes, List, MemShelf};
 use std::alloc::{AllocError, Global};
 use std::process::Abort;

@@ -1,11 +1,11 @@
 use crate::checks::check_on;
 use crew::ScopeCrew;
-use job_samples::bank::{BANK, CHANGES};
-use job_samples::outside::SOUND;
-use job_samples::runs::{MORE_RUNS, RUNS};
-use job_samples::shelves::{REPLAY, bank_files, files_of, with_source};
-use job_samples::sources::{NONE_LEFT, PASSES, WAITS};
-use job_samples::weak_runs::WEAK_RUNS;
+use samples::bank::{BANK, CHANGES};
+use samples::outside::SOUND;
+use samples::runs::{MORE_RUNS, RUNS};
+use samples::shelves::{REPLAY, bank_files, files_of, with_source};
+use samples::sources::{NONE_LEFT, PASSES, WAITS};
+use samples::weak_runs::WEAK_RUNS;
 use rr_base::MemShelf;
 use std::alloc::Global;
 use std::process::Abort;

@@ -16,10 +16,10 @@ use Rattle.c_tree.specs.declared.expr.PrefixOp.{PrefixOp}
 use Rattle.c_tree.specs.declared.expr.PrefixOp.TheVariants as prefix_op
 use Rattle.c_types.specs.Numbers as folding
 use Rattle.c_types.specs.Numbers.{Computed, computed, prefixed}
-use Rattle.abstract_machine.specs.Values as running
-use Rattle.abstract_machine.specs.Values.{number, word, fits, is_zero, binary_of}
-use Rattle.c_core.specs.Meaning.{unary_of}
-use Rattle.c_core.specs.declared.value.UnaryOp.TheVariants as unary_op
+use Rattle.word_semantics.specs.Values as running
+use Rattle.word_semantics.specs.Values.{number, word, fits, is_zero, binary_of}
+use Rattle.core_tree.specs.Meaning.{unary_of}
+use Rattle.core_tree.specs.declared.value.UnaryOp.TheVariants as unary_op
 use Rattle.c_operators.specs.Operators.{flow_operator}
 use Rattle.constant_sound.specs.Running.{worded, is_logical}
 

@@ -3,7 +3,7 @@ use Rattle.std.proofs.Common.{◌≡◌, ℕ, ◌^◌, min, bytes_eq, Bool, true
 use Rattle.std.proofs.lemmas.Bool.{and_parts, eqb-true, lt-ltb}
 use Rattle.rr_base.specs.declared.position.Position.{Position}
 use Rattle.sync_objects.specs.Setup.{SetupView}
-use Rattle.abstract_machine.specs.Values.{fits}
+use Rattle.word_semantics.specs.Values.{fits}
 use Rattle.c_text.specs.Texts.{Text, entry_of}
 use Rattle.c_tree.specs.declared.ctype.CType.{CType}
 use Rattle.c_tree.specs.declared.expr.BinaryOp.{BinaryOp}
@@ -18,9 +18,9 @@ use Rattle.c_types.specs.Scopes.{Known, seen, cells_of_some, type_named}
 use Rattle.c_types.specs.Operands.{Standing, no_type, zero_literal, null_literal, a_value, a_place}
 use Rattle.c_types.specs.Standing.{Target, no_target, cast_target, standing}
 use Rattle.c_constants.specs.Values.{cells_of_standing, size_here, value_here}
-use Rattle.c_core.specs.Core as core
-use Rattle.c_core.specs.Core.{Program}
-use Rattle.c_core.specs.Meaning.{Calls}
+use Rattle.core_tree.specs.Core as core
+use Rattle.core_tree.specs.Core.{Program}
+use Rattle.core_tree.specs.Meaning.{Calls}
 use Rattle.c_operators.specs.Denoted.{position_of, Denoted, denoted_zero, denoted_value, Part, part_by, value_by}
 use Rattle.c_operators.specs.Context.{Context}
 use Rattle.c_operators.specs.Operators.{binary_in, conditional_in, prefix_in, cast_in}

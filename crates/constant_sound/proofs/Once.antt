@@ -3,12 +3,12 @@ use Rattle.std.proofs.Common.{◌≡◌, ℕ, true, Ok, Err, sym, ap, ◌∙◌}
 use Rattle.rr_base.specs.declared.trap.Trap.{Trap}
 use Rattle.rr_base.specs.declared.trap.Trap.TheVariants as trap
 use Rattle.sync_objects.specs.Setup.{SetupView}
-use Rattle.abstract_machine.specs.Values.{number, word}
+use Rattle.word_semantics.specs.Values.{number, word}
 use Rattle.c_types.specs.Numbers.{Computed}
-use Rattle.c_core.specs.Core as core
-use Rattle.c_core.specs.Core.{Program}
-use Rattle.c_core.specs.Meaning.{Calls, start}
-use Rattle.c_core.specs.Runs.{M, Run, traps, ends, pure, result_at}
+use Rattle.core_tree.specs.Core as core
+use Rattle.core_tree.specs.Core.{Program}
+use Rattle.core_tree.specs.Meaning.{Calls, start}
+use Rattle.core_tree.specs.Runs.{M, Run, traps, ends, pure, result_at}
 use Rattle.constant_sound.specs.Running.{worded, fit, Computes}
 use Rattle.constant_sound.proofs.Arithmetic.{number_word}
 

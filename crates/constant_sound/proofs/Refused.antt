@@ -2,7 +2,7 @@
 use Rattle.std.proofs.Common.{◌≡◌, ◌↔◌, ℕ, Bool, true, false, not, ◌&&◌, ◌||◌, [], Ok, Err, refl, sym, ◌∙◌}
 use Rattle.rr_base.specs.declared.position.Position.{Position}
 use Rattle.sync_objects.specs.Setup.{SetupView}
-use Rattle.abstract_machine.specs.Values.{word}
+use Rattle.word_semantics.specs.Values.{word}
 use Rattle.c_tree.specs.Tree.{Exp}
 use Rattle.c_types.specs.declared.fault.FaultKind.TheVariants as fault
 use Rattle.c_types.specs.Found.{where_it_comes}
@@ -12,9 +12,9 @@ use Rattle.c_types.specs.Standing.{no_target}
 use Rattle.c_rules.specs.Faults.{first_place}
 use Rattle.c_constants.specs.Values.{value_here}
 use Rattle.c_rules.specs.Sizes.{is_trap, is_sound, constant_faults}
-use Rattle.c_core.specs.Core.{Program}
-use Rattle.c_core.specs.Meaning.{Calls, value}
-use Rattle.c_core.specs.Runs.{M, pure, result_at}
+use Rattle.core_tree.specs.Core.{Program}
+use Rattle.core_tree.specs.Meaning.{Calls, value}
+use Rattle.core_tree.specs.Runs.{M, pure, result_at}
 use Rattle.c_operators.specs.Context.{Context}
 use Rattle.constant_sound.specs.Running.{worded}
 use Rattle.constant_sound.specs.Written.{HidesNoConstant, literals_fit, written_of}

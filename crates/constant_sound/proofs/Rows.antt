@@ -8,9 +8,9 @@ use Rattle.c_tree.specs.declared.expr.BinaryOp.TheVariants as op
 use Rattle.c_tree.specs.declared.expr.PrefixOp.TheVariants as prefix_op
 use Rattle.c_tree.specs.Tree.{Exp, conditional, binary, prefix, number}
 use Rattle.c_constants.specs.Values.{value_here}
-use Rattle.c_core.specs.Core.{Program}
-use Rattle.c_core.specs.Meaning.{Calls, value}
-use Rattle.c_core.specs.Runs.{result_at}
+use Rattle.core_tree.specs.Core.{Program}
+use Rattle.core_tree.specs.Meaning.{Calls, value}
+use Rattle.core_tree.specs.Runs.{result_at}
 use Rattle.c_operators.specs.Context.{Context}
 use Rattle.constant_sound.specs.Written.{written_of}
 

@@ -3,11 +3,11 @@ use Rattle.std.proofs.Common.{◌≡◌, ℕ, ◌==◌, Bool, true, false, not, 
 use Rattle.std.proofs.lemmas.Bool.{and_from}
 use Rattle.rr_base.specs.declared.position.Position.{Position}
 use Rattle.sync_objects.specs.Setup.{SetupView}
-use Rattle.abstract_machine.specs.declared.operator.BinaryOp.{BinaryOp as FlowOp}
-use Rattle.abstract_machine.specs.declared.operator.BinaryOp.TheVariants as flow
-use Rattle.abstract_machine.specs.Operators.{either_binary_of}
-use Rattle.abstract_machine.specs.Values as running
-use Rattle.abstract_machine.specs.Values.{word, fits, is_zero, binary_of}
+use Rattle.word_semantics.specs.declared.operator.BinaryOp.{BinaryOp as FlowOp}
+use Rattle.word_semantics.specs.declared.operator.BinaryOp.TheVariants as flow
+use Rattle.word_semantics.specs.Operators.{either_binary_of}
+use Rattle.word_semantics.specs.Values as running
+use Rattle.word_semantics.specs.Values.{word, fits, is_zero, binary_of}
 use Rattle.c_tree.specs.declared.expr.BinaryOp.{BinaryOp}
 use Rattle.c_tree.specs.declared.expr.BinaryOp.TheVariants as op
 use Rattle.c_tree.specs.declared.expr.PrefixOp.{PrefixOp}
@@ -16,12 +16,12 @@ use Rattle.c_types.specs.Numbers as folding
 use Rattle.c_types.specs.Numbers.{Computed, computed, prefixed}
 use Rattle.c_types.specs.Constants.{and_then, binary_value, is_of_numbers}
 use Rattle.c_types.specs.Operands.{Standing, is_whole}
-use Rattle.c_core.specs.declared.value.UnaryOp.{UnaryOp}
-use Rattle.c_core.specs.declared.value.UnaryOp.TheVariants as unary_op
-use Rattle.c_core.specs.Core as core
-use Rattle.c_core.specs.Core.{Program}
-use Rattle.c_core.specs.Meaning.{Calls, value, is_pointer, unary_of}
-use Rattle.c_core.specs.Runs.{M, ◌>>=◌, pure, result_at, choose}
+use Rattle.core_tree.specs.declared.value.UnaryOp.{UnaryOp}
+use Rattle.core_tree.specs.declared.value.UnaryOp.TheVariants as unary_op
+use Rattle.core_tree.specs.Core as core
+use Rattle.core_tree.specs.Core.{Program}
+use Rattle.core_tree.specs.Meaning.{Calls, value, is_pointer, unary_of}
+use Rattle.core_tree.specs.Runs.{M, ◌>>=◌, pure, result_at, choose}
 use Rattle.c_operators.specs.Denoted.{Denoted, Part, operand_in, is_pointing, value_in, value_by, wanted_in}
 use Rattle.c_operators.specs.Context.{Source, element_of}
 use Rattle.c_operators.specs.Operators.{flow_operator, binary_in, sum_in, difference_in, operated_in, conditional_in, prefix_in, cast_in}

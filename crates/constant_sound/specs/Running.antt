@@ -2,13 +2,13 @@
 use Rattle.std.specs.Prelude.{◌≡◌, ℕ, Bool, true, false, Result, Ok, Err}
 use Rattle.rr_base.specs.declared.trap.Trap.{Trap}
 use Rattle.sync_objects.specs.Setup.{SetupView}
-use Rattle.abstract_machine.specs.Values.{word}
+use Rattle.word_semantics.specs.Values.{word}
 use Rattle.c_tree.specs.declared.expr.BinaryOp.{BinaryOp}
 use Rattle.c_tree.specs.declared.expr.BinaryOp.TheVariants as op
 use Rattle.c_types.specs.Numbers.{Computed, fits}
-use Rattle.c_core.specs.Core.{Exp, Program}
-use Rattle.c_core.specs.Meaning.{Calls, value}
-use Rattle.c_core.specs.Runs.{result_at}
+use Rattle.core_tree.specs.Core.{Exp, Program}
+use Rattle.core_tree.specs.Meaning.{Calls, value}
+use Rattle.core_tree.specs.Runs.{result_at}
 
 -- the number's word, or the same trap
 abbrev pub worded : Computed → Result ℕ Trap

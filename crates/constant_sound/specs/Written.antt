@@ -6,7 +6,7 @@ use Rattle.c_types.specs.Numbers.{fits}
 use Rattle.c_types.specs.Constants.{constant_named}
 use Rattle.c_types.specs.Scopes.{Known, Meaning, seen, type_named}
 use Rattle.c_types.specs.Standing.{Target, no_target, cast_target, standing}
-use Rattle.c_core.specs.Core as core
+use Rattle.core_tree.specs.Core as core
 use Rattle.c_operators.specs.Denoted.{position_of, Denoted, denoted_value, part_by, value_by}
 use Rattle.c_operators.specs.Context.{Context}
 use Rattle.c_operators.specs.Operators.{binary_in, conditional_in, prefix_in, cast_in}

@@ -1,7 +1,7 @@
 //! The laws of constants.
 ghost use Rattle.std.specs.Prelude.{◌≡◌, ◌↔◌, ℕ, ℤ, true, false, [], Ok};
 ghost use Rattle.sync_objects.specs.Setup.{SetupView};
-ghost use Rattle.abstract_machine.specs.Values.{word, binary_of};
+ghost use Rattle.word_semantics.specs.Values.{word, binary_of};
 ghost use Rattle.c_tree.specs.Tree.{Exp};
 ghost use Rattle.c_tree.specs.declared.expr.BinaryOp.{BinaryOp};
 ghost use Rattle.c_tree.specs.declared.expr.PrefixOp.TheVariants as prefix_op;
@@ -10,11 +10,11 @@ ghost use Rattle.c_types.specs.Constants.{is_constant};
 ghost use Rattle.c_types.specs.Scopes.{Known};
 ghost use Rattle.c_constants.specs.Values.{value_here};
 ghost use Rattle.c_rules.specs.Sizes.{is_sound, constant_faults};
-ghost use Rattle.c_core.specs.Core as core;
-ghost use Rattle.c_core.specs.Core.{Program};
-ghost use Rattle.c_core.specs.Meaning.{Calls, unary_of, value};
-ghost use Rattle.c_core.specs.Runs.{pure};
-ghost use Rattle.c_core.specs.declared.value.UnaryOp.TheVariants as unary_op;
+ghost use Rattle.core_tree.specs.Core as core;
+ghost use Rattle.core_tree.specs.Core.{Program};
+ghost use Rattle.core_tree.specs.Meaning.{Calls, unary_of, value};
+ghost use Rattle.core_tree.specs.Runs.{pure};
+ghost use Rattle.core_tree.specs.declared.value.UnaryOp.TheVariants as unary_op;
 ghost use Rattle.c_operators.specs.Context.{Context};
 ghost use Rattle.c_operators.specs.Operators.{flow_operator};
 ghost use Rattle.c_values.specs.Expressions.{value_of};

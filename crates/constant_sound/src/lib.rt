@@ -1,5 +1,5 @@
 //! The value of a constant expression is what its core tree gives when it runs. Numbers stand twice below: `c_types` folds
-//! constants of a source over whole numbers, and `abstract_machine` computes on words. This crate joins the two. It stands on
+//! constants of a source over whole numbers, and `word_semantics` computes on words. This crate joins the two. It stands on
 //! `c_operators` and `c_values`.
 #![tactic(auto)]
 

@@ -8,9 +8,9 @@ use Rattle.sync_objects.specs.Setup.{SetupView}
 use Rattle.sync_objects.specs.declared.entry.Entry.{Entry}
 use Rattle.flow_code.specs.declared.code.Code.{Code}
 use Rattle.core_run.specs.Words.{cells_of, place_of}
-use Rattle.thread_flow.specs.declared.access.Access.{Access}
-use Rattle.thread_flow.specs.declared.access.Formula.{Formula}
-use Rattle.thread_flow.specs.Flows.{Running}
+use Rattle.thread_interpreter.specs.declared.access.Access.{Access}
+use Rattle.thread_interpreter.specs.declared.access.Formula.{Formula}
+use Rattle.thread_interpreter.specs.Flows.{Running}
 use Rattle.core_run.specs.Kept.{AreSound}
 use Rattle.core_run.specs.Machine.{Told, machine}
 use Rattle.core_run.specs.Parts.{KeepsObjects}
@@ -18,10 +18,10 @@ use Rattle.core_run.specs.Walks.{pieces_of, joined}
 use Rattle.core_run.specs.Shown.{running_thread, told_thread, IsShown, GoesTo, EntryStep, PartStep}
 use Rattle.core_run.proofs.Places.{place_past}
 use Rattle.core_run.proofs.Walked.{stands}
-use Rattle.runs.specs.Labels.{Go, label_of}
-use Rattle.runs.specs.Steps.{State, stepped, entry_of_thread, step_of_thread, count_of, count_or_zero}
-use Rattle.runs.specs.Walk.{if_only, if_nothing, alone, made, part}
-use Rattle.runs.proofs.Apart.{thread_of_label}
+use Rattle.run_theory.specs.Labels.{Go, label_of}
+use Rattle.run_theory.specs.Steps.{State, stepped, entry_of_thread, step_of_thread, count_of, count_or_zero}
+use Rattle.run_theory.specs.Walk.{if_only, if_nothing, alone, made, part}
+use Rattle.run_theory.proofs.Apart.{thread_of_label}
 
 -- words of objects that are as they were are still sound
 pub still_sound : (code : Code) (s : SetupView) (most cells : ℕ) (ws ws1 : List ℕ) → cells ≡ cells_of code s → KeepsObjects cells ws ws1 → AreSound code s most ws → AreSound code s most ws1

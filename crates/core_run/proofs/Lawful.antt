@@ -14,22 +14,22 @@ use Rattle.sync_objects.specs.declared.operation.OpName.{OpName}
 use Rattle.sync_objects.specs.declared.operation.OpName.TheVariants as name
 use Rattle.sync_objects.proofs.Soundness.{number_rises}
 use Rattle.flow_code.specs.declared.code.Code.{Code}
-use Rattle.abstract_machine.specs.declared.event.Action.{Action}
-use Rattle.abstract_machine.specs.declared.event.Action.TheVariants as action
-use Rattle.abstract_machine.specs.Values.{number}
+use Rattle.word_semantics.specs.declared.event.Action.{Action}
+use Rattle.word_semantics.specs.declared.event.Action.TheVariants as action
+use Rattle.word_semantics.specs.Values.{number}
 use Rattle.flow_code.specs.Threads.{Thread}
 use Rattle.flow_code.specs.Next.{stepped, action_at, gave_up, stopped, slot_closed}
 use Rattle.flow_code.specs.Settle.{settled, IsRunnable}
-use Rattle.abstract_machine.proofs.Calls.{is_from_outside}
+use Rattle.word_semantics.proofs.Calls.{is_from_outside}
 use Rattle.flow_code.proofs.Counts.{Counts, action_counts, step_grows, settled_count}
 use Rattle.flow_code.proofs.Asked.{own_action}
 use Rattle.core_run.specs.Words.{cells_of, has_object}
-use Rattle.thread_flow.specs.Pieces.{piece_next}
+use Rattle.thread_interpreter.specs.Pieces.{piece_next}
 use Rattle.core_run.specs.Machine.{Told, operated, change_of, entry_of, operation, action_effect, may_revoke, may_stop, may_close, effect_of, machine}
 use Rattle.core_run.proofs.Places.{place_past, place_apart}
-use Rattle.runs.specs.Labels.{Label, Go, Revoke, Stop, Close, operation_label}
-use Rattle.runs.specs.Steps.{Becomes, Effect, Refused}
-use Rattle.runs.specs.Laws.{GoesOn, IsLawfulEffect, IsLawful}
+use Rattle.run_theory.specs.Labels.{Label, Go, Revoke, Stop, Close, operation_label}
+use Rattle.run_theory.specs.Steps.{Becomes, Effect, Refused}
+use Rattle.run_theory.specs.Laws.{GoesOn, IsLawfulEffect, IsLawful}
 
 -- what a label does, by the kind of the label
 

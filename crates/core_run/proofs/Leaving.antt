@@ -3,15 +3,15 @@ use Rattle.std.proofs.Common.{◌≡◌, arith, ◌<◌, ◌-◌, ap, ℕ, zero,
 use Rattle.std.specs.Prelude.{slice_get}
 use Rattle.sync_objects.specs.Setup.{SetupView}
 use Rattle.flow_code.specs.declared.code.Code.{Code}
-use Rattle.thread_flow.specs.declared.access.Access.{Access}
-use Rattle.thread_flow.specs.declared.access.Formula.{Formula}
-use Rattle.thread_flow.specs.Flows.{Running}
+use Rattle.thread_interpreter.specs.declared.access.Access.{Access}
+use Rattle.thread_interpreter.specs.declared.access.Formula.{Formula}
+use Rattle.thread_interpreter.specs.Flows.{Running}
 use Rattle.core_run.specs.Machine.{Told, machine}
 use Rattle.core_run.specs.Walks.{pieces_of}
 use Rattle.core_run.specs.Shown.{IsShown, StepsTo, GoesTo}
-use Rattle.runs.specs.Steps.{State}
-use Rattle.runs.specs.Walk.{alone}
-use Rattle.runs.proofs.Solo.{alone_more}
+use Rattle.run_theory.specs.Steps.{State}
+use Rattle.run_theory.specs.Walk.{alone}
+use Rattle.run_theory.proofs.Solo.{alone_more}
 
 -- of n own steps of thread t from the state, these are left
 pub record Leaves (code : Code) (s : SetupView) (f : Formula) (n left t : ℕ) (st : State Told) (flows : List Running) (words : List ℕ) (reads : List (List Access)) : Type 0 where

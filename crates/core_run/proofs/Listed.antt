@@ -16,9 +16,9 @@ use Rattle.sync_objects.specs.declared.operation.Op.{Op}
 use Rattle.sync_objects.specs.declared.operation.Op.TheVariants as op
 use Rattle.sync_objects.specs.declared.operation.OpName.TheVariants as name
 use Rattle.flow_code.specs.declared.code.Code.{Code}
-use Rattle.abstract_machine.specs.declared.event.Action.{Action}
-use Rattle.abstract_machine.specs.declared.event.Action.TheVariants as action
-use Rattle.abstract_machine.specs.Values.{number}
+use Rattle.word_semantics.specs.declared.event.Action.{Action}
+use Rattle.word_semantics.specs.declared.event.Action.TheVariants as action
+use Rattle.word_semantics.specs.Values.{number}
 use Rattle.flow_code.specs.Threads.{Thread}
 use Rattle.flow_code.specs.Next.{stepped as thread_stepped, action_at, gave_up, stopped, slot_closed}
 use Rattle.flow_code.specs.Settle.{settled}
@@ -27,14 +27,14 @@ use Rattle.flow_code.proofs.Ranges.{operation_count, not_ended, settled_in_range
 use Rattle.flow_code.proofs.Counts.{action_counts, settled_keeps_all}
 use Rattle.flow_code.proofs.Endings.{ending_more, other_more, EndsSo, none_yet, Ends, settled_ends, access_ends, operate_ends, gave_up_ends, stopped_ends, shut_ends}
 use Rattle.core_run.specs.Words.{cells_of, has_object}
-use Rattle.thread_flow.specs.Pieces.{piece_next}
+use Rattle.thread_interpreter.specs.Pieces.{piece_next}
 use Rattle.core_run.specs.Machine.{Told, entry_of, operation, action_effect, may_revoke, may_stop, may_close, effect_of, machine, start_state}
 use Rattle.core_run.specs.Kept.{AreInRange, endings_in, IsAllowed}
 use Rattle.core_run.proofs.Lawful.{effect_go, effect_revoke, effect_stop, effect_close, change_is}
 use Rattle.core_run.proofs.ThreadRanges.{start_thread_is, revoke_lives, stop_lives, close_lives}
-use Rattle.runs.specs.Labels.{Label, Go, Revoke, Stop, Close, label_thread}
-use Rattle.runs.specs.Steps.{Becomes, Leaves, Effect, Refused, Marks, Loads, Stores, Operates, State, outcome, stepped}
-use Rattle.runs.proofs.Swap.{load_inv, change_inv, steps_of}
+use Rattle.run_theory.specs.Labels.{Label, Go, Revoke, Stop, Close, label_thread}
+use Rattle.run_theory.specs.Steps.{Becomes, Leaves, Effect, Refused, Marks, Loads, Stores, Operates, State, outcome, stepped}
+use Rattle.run_theory.proofs.Swap.{load_inv, change_inv, steps_of}
 
 -- one entry more
 endings_more : (xs : List Noted) (x : Noted) → endings_in (xs ++ x ∷ []) ≡ (if is_ending x.entry.op then endings_in xs + 1 else endings_in xs)

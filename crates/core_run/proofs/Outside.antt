@@ -21,10 +21,10 @@ use Rattle.core_run.specs.Words.{cells_of, has_object, place_of}
 use Rattle.core_run.specs.Parts.{made_outcome, MadeIs, noted, LacksWord, no_object, no_word, no_row, HasWord}
 use Rattle.core_run.specs.declared.parts.Made.TheVariants as made
 use Rattle.core_run.proofs.Lawful.{effect_revoke, effect_stop, effect_close}
-use Rattle.runs.specs.Labels.{Go, Revoke, Stop, Close, label_of, operation_label}
-use Rattle.runs.specs.Same.{same_entry}
-use Rattle.runs.specs.Steps.{Refused, Operates, Change, Outcome, Blocked, Leaves, change_outcome, changed_outcome}
-use Rattle.runs.proofs.SameEntries.{same_entry-true}
+use Rattle.run_theory.specs.Labels.{Go, Revoke, Stop, Close, label_of, operation_label}
+use Rattle.run_theory.specs.Same.{same_entry}
+use Rattle.run_theory.specs.Steps.{Refused, Operates, Change, Outcome, Blocked, Leaves, change_outcome, changed_outcome}
+use Rattle.run_theory.proofs.SameEntries.{same_entry-true}
 
 -- an entry of any operation but these three is made by its thread's own step
 pub label_go : (t : ℕ) (o : OpName) (obj : ObjId) → (o ≡ name.Revoke → ⊥) → (o ≡ name.Stop → ⊥) → (o ≡ name.Close → ⊥) → operation_label t o obj ≡ Go t

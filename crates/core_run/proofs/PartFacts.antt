@@ -2,8 +2,8 @@
 use Rattle.std.proofs.Common.{◌≡◌, ℕ, List, refl, sym, ap, ◌∙◌, subst}
 use Rattle.sync_objects.specs.Setup.{SetupView}
 use Rattle.flow_code.specs.declared.code.Code.{Code}
-use Rattle.abstract_machine.specs.declared.event.Action.{Action}
-use Rattle.abstract_machine.specs.declared.event.Action.TheVariants as action
+use Rattle.word_semantics.specs.declared.event.Action.{Action}
+use Rattle.word_semantics.specs.declared.event.Action.TheVariants as action
 use Rattle.flow_code.specs.Threads.{Thread}
 use Rattle.flow_code.specs.Next.{action_at}
 use Rattle.flow_code.specs.Settle.{settled}
@@ -12,8 +12,8 @@ use Rattle.core_run.specs.Parts.{OwnOf, OwnIs, own_outcome}
 use Rattle.core_run.specs.declared.parts.Own.{Own}
 use Rattle.core_run.specs.declared.parts.Own.TheVariants as own
 use Rattle.core_run.proofs.Lawful.{effect_go}
-use Rattle.runs.specs.Labels.{Go}
-use Rattle.runs.specs.Steps.{Blocked, Change, Operates, Refused}
+use Rattle.run_theory.specs.Labels.{Go}
+use Rattle.run_theory.specs.Steps.{Blocked, Change, Operates, Refused}
 use Rattle.core_run.specs.Words.{has_object}
 use Rattle.sync_objects.specs.declared.entry.Entry.{Entry}
 use Rattle.sync_objects.specs.declared.object.ObjId.{ObjId}

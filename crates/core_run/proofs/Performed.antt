@@ -11,24 +11,24 @@ use Rattle.sync_objects.specs.declared.object.ObjId.{ObjId}
 use Rattle.sync_objects.specs.declared.operation.Op.{Op}
 use Rattle.sync_objects.specs.declared.operation.Op.TheVariants as op
 use Rattle.flow_code.specs.declared.code.Code.{Code}
-use Rattle.abstract_machine.specs.declared.event.Action.TheVariants as action
+use Rattle.word_semantics.specs.declared.event.Action.TheVariants as action
 use Rattle.flow_code.specs.Threads.{Thread}
 use Rattle.flow_code.specs.Next.{stepped, act_at, action_at}
 use Rattle.flow_code.specs.Settle.{IsRunnable}
 use Rattle.flow_code.proofs.Asked.{own_action}
 use Rattle.core_run.specs.Machine.{Told, effect_of, action_effect, change_of, operated, entry_of}
 use Rattle.core_run.specs.Words.{cells_of, has_object, place_of}
-use Rattle.thread_flow.specs.Pieces.{piece_next, piece_at}
+use Rattle.thread_interpreter.specs.Pieces.{piece_next, piece_at}
 use Rattle.core_run.specs.Parts.{made_outcome, MadeOutcome, MadeIs, is_print, PerformedIs, AreUsable, noted}
 use Rattle.core_run.specs.declared.parts.Made.{Made}
 use Rattle.core_run.proofs.PartFacts.{effect_here}
-use Rattle.runs.specs.Labels.{Go, label_of}
+use Rattle.run_theory.specs.Labels.{Go, label_of}
 use Rattle.flow_code.specs.Settle.{settled}
-use Rattle.abstract_machine.specs.declared.event.Action.{Action}
+use Rattle.word_semantics.specs.declared.event.Action.{Action}
 use Rattle.std.specs.Prelude.{nat_lt}
-use Rattle.runs.specs.Same.{same_entry}
-use Rattle.runs.specs.Steps.{Refused, Operates, Loads, Stores, Change, Blocked, Leaves, change_outcome, changed_outcome}
-use Rattle.runs.proofs.SameEntries.{same_entry-refl, same_entry-true}
+use Rattle.run_theory.specs.Same.{same_entry}
+use Rattle.run_theory.specs.Steps.{Refused, Operates, Loads, Stores, Change, Blocked, Leaves, change_outcome, changed_outcome}
+use Rattle.run_theory.proofs.SameEntries.{same_entry-refl, same_entry-true}
 use Rattle.std.proofs.lemmas.Option.{get_or_from_slice_get}
 
 -- what `advance` asks of an object's word

@@ -16,10 +16,10 @@ use Rattle.core_run.proofs.Listed.{IsListed, AreListed, threads_listed, start_li
 use Rattle.core_run.proofs.SoundWords.{sound_start, sound_more, sound_step}
 use Rattle.core_run.proofs.ThreadRanges.{start_all_in_range, threads_in_range}
 use Rattle.core_run.proofs.Told.{effect_tells, outcome_tells}
-use Rattle.runs.specs.Labels.{Label, label_thread}
-use Rattle.runs.specs.Steps.{Becomes, Leaves, Effect, Refused, Marks, Loads, Stores, Operates, State, outcome, stepped, effect_entry, added, Reaches}
-use Rattle.runs.proofs.Swap.{load_inv, change_inv, steps_of, adds_of}
-use Rattle.runs.proofs.Kept.{kept_along}
+use Rattle.run_theory.specs.Labels.{Label, label_thread}
+use Rattle.run_theory.specs.Steps.{Becomes, Leaves, Effect, Refused, Marks, Loads, Stores, Operates, State, outcome, stepped, effect_entry, added, Reaches}
+use Rattle.run_theory.proofs.Swap.{load_inv, change_inv, steps_of, adds_of}
+use Rattle.run_theory.proofs.Kept.{kept_along}
 
 -- the entries of a thread
 abbrev steps_in : Told → ℕ

@@ -16,23 +16,23 @@ use Rattle.sync_objects.specs.declared.operation.Op.{Op}
 use Rattle.sync_objects.specs.declared.operation.Op.TheVariants as op
 use Rattle.sync_objects.proofs.Soundness.{start_is_sound, number_rises, keeps_sound}
 use Rattle.flow_code.specs.declared.code.Code.{Code}
-use Rattle.abstract_machine.specs.declared.event.Action.{Action}
-use Rattle.abstract_machine.specs.declared.event.Action.TheVariants as action
+use Rattle.word_semantics.specs.declared.event.Action.{Action}
+use Rattle.word_semantics.specs.declared.event.Action.TheVariants as action
 use Rattle.flow_code.specs.Threads.{Thread}
 use Rattle.flow_code.specs.Next.{stepped as thread_stepped, action_at, gave_up, stopped, slot_closed}
 use Rattle.flow_code.specs.Settle.{settled, IsRunnable}
 use Rattle.flow_code.proofs.Asked.{own_action}
 use Rattle.core_run.specs.Words.{cells_of, has_object, place_of, start_words}
-use Rattle.thread_flow.specs.Pieces.{piece_next}
+use Rattle.thread_interpreter.specs.Pieces.{piece_next}
 use Rattle.core_run.specs.Machine.{Told, entry_of, operation, action_effect, may_revoke, may_stop, may_close, effect_of, machine}
 use Rattle.core_run.specs.Kept.{AreSound}
 use Rattle.core_run.proofs.Places.{place_past, place_apart}
 use Rattle.core_run.proofs.Beginnings.{start_word_at, start_number}
 use Rattle.core_run.proofs.Lawful.{effect_go, effect_revoke, effect_stop, effect_close, change_is}
-use Rattle.runs.specs.Labels.{Label, Go, Revoke, Stop, Close, label_thread}
-use Rattle.runs.specs.Steps.{Change, Becomes, Leaves, Effect, Refused, Marks, Loads, Stores, Operates, State, outcome, stepped, effect_entry, added}
-use Rattle.runs.proofs.SameEntries.{object_cases}
-use Rattle.runs.proofs.Swap.{load_inv, change_inv, steps_of, adds_of}
+use Rattle.run_theory.specs.Labels.{Label, Go, Revoke, Stop, Close, label_thread}
+use Rattle.run_theory.specs.Steps.{Change, Becomes, Leaves, Effect, Refused, Marks, Loads, Stores, Operates, State, outcome, stepped, effect_entry, added}
+use Rattle.run_theory.proofs.SameEntries.{object_cases}
+use Rattle.run_theory.proofs.Swap.{load_inv, change_inv, steps_of, adds_of}
 
 module _ (code : Code) (s : SetupView) where
   -- where an object has its word

@@ -4,12 +4,12 @@ use Rattle.std.specs.Prelude.{replicate}
 use Rattle.std.proofs.lemmas.List.{map-append}
 use Rattle.sync_objects.specs.Setup.{SetupView}
 use Rattle.flow_code.specs.declared.code.Code.{Code}
-use Rattle.thread_flow.specs.Flows.{Running}
+use Rattle.thread_interpreter.specs.Flows.{Running}
 use Rattle.sync_objects.specs.Start.{start_word}
 use Rattle.sync_objects.specs.declared.object.ObjId.TheVariants as object
 use Rattle.core_run.specs.Words.{objects_from}
 use Rattle.core_run.specs.Machine.{start_told, start_threads_from}
-use Rattle.thread_flow.specs.Starts.{start_thread}
+use Rattle.thread_interpreter.specs.Starts.{start_thread}
 use Rattle.core_run.specs.Shown.{running_thread, told_thread, RunAll}
 
 pub run_all_push : (code : Code) (s : SetupView) (k : ℕ) (rs : List Running) (r : Running) → RunAll code s k rs → r.code ≡ code → r.setup ≡ s → r.number ≡ k + length rs → RunAll code s k (rs ++ r ∷ [])

@@ -12,24 +12,24 @@ use Rattle.sync_objects.specs.declared.operation.Op.{Op}
 use Rattle.sync_objects.specs.declared.operation.Op.TheVariants as op
 use Rattle.sync_objects.specs.Names.{name_of}
 use Rattle.flow_code.specs.declared.code.Code.{Code}
-use Rattle.abstract_machine.specs.declared.event.Action.{Action}
-use Rattle.abstract_machine.specs.declared.event.Action.TheVariants as action
-use Rattle.abstract_machine.specs.Values.{number}
+use Rattle.word_semantics.specs.declared.event.Action.{Action}
+use Rattle.word_semantics.specs.declared.event.Action.TheVariants as action
+use Rattle.word_semantics.specs.Values.{number}
 use Rattle.flow_code.specs.Threads.{Thread}
 use Rattle.flow_code.specs.Next.{holds, stepped as thread_stepped, action_at, gave_up, stopped, slot_closed, has_ended, has_begun}
-use Rattle.abstract_machine.specs.Limits.{most_entries, most_revokes}
+use Rattle.word_semantics.specs.Limits.{most_entries, most_revokes}
 use Rattle.flow_code.specs.Settle.{settled}
 use Rattle.flow_code.specs.Ranges.{InRange}
 use Rattle.flow_code.proofs.Ranges.{stepped_in_range, settled_in_range, gave_up_in_range, stopped_in_range, shut_in_range}
 use Rattle.core_run.specs.Words.{cells_of, has_object}
-use Rattle.thread_flow.specs.Pieces.{piece_next}
+use Rattle.thread_interpreter.specs.Pieces.{piece_next}
 use Rattle.core_run.specs.Machine.{Told, entry_of, operation, action_effect, may_revoke, may_stop, may_close, effect_of, machine, start_told, start_threads_from, start_state}
 use Rattle.core_run.specs.Kept.{AreInRange}
-use Rattle.thread_flow.proofs.StartRanges.{start_in_range}
+use Rattle.thread_interpreter.proofs.StartRanges.{start_in_range}
 use Rattle.core_run.proofs.Lawful.{effect_go, effect_revoke, effect_stop, effect_close, change_is}
-use Rattle.runs.specs.Labels.{Label, Go, Revoke, Stop, Close, label_thread}
-use Rattle.runs.specs.Steps.{Becomes, Leaves, Effect, Refused, Marks, Loads, Stores, Operates, State, outcome, stepped}
-use Rattle.runs.proofs.Swap.{load_inv, change_inv, steps_of}
+use Rattle.run_theory.specs.Labels.{Label, Go, Revoke, Stop, Close, label_thread}
+use Rattle.run_theory.specs.Steps.{Becomes, Leaves, Effect, Refused, Marks, Loads, Stores, Operates, State, outcome, stepped}
+use Rattle.run_theory.proofs.Swap.{load_inv, change_inv, steps_of}
 
 -- the thread with this number in the list from another one on
 start_threads : (code : Code) (s : SetupView) (k n t : ℕ) (told : Told) → slice_get (start_threads_from code s k n) t ≡ Some told → told ≡ start_told code s (k + t)

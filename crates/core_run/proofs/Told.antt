@@ -14,23 +14,23 @@ use Rattle.sync_objects.specs.declared.object.ObjId.TheVariants as object
 use Rattle.sync_objects.specs.declared.operation.Op.{Op}
 use Rattle.sync_objects.specs.declared.operation.Op.TheVariants as op
 use Rattle.flow_code.specs.declared.code.Code.{Code}
-use Rattle.abstract_machine.specs.declared.event.Action.{Action}
-use Rattle.abstract_machine.specs.declared.event.Action.TheVariants as action
+use Rattle.word_semantics.specs.declared.event.Action.{Action}
+use Rattle.word_semantics.specs.declared.event.Action.TheVariants as action
 use Rattle.flow_code.specs.Threads.{Thread}
 use Rattle.flow_code.specs.Next.{stepped as thread_stepped, action_at, gave_up, stopped, slot_closed}
 use Rattle.flow_code.specs.Settle.{settled}
 use Rattle.core_run.specs.Words.{cells_of, has_object}
-use Rattle.thread_flow.specs.Pieces.{piece_next}
+use Rattle.thread_interpreter.specs.Pieces.{piece_next}
 use Rattle.core_run.specs.Machine.{Told, entry_of, operation, action_effect, may_revoke, may_stop, may_close, effect_of, machine, start_state}
 use Rattle.core_run.specs.Histories.{run_of, list_in, list_of, lists_of}
 use Rattle.core_run.proofs.Lawful.{effect_go, effect_revoke, effect_stop, effect_close, change_is}
 use Rattle.core_run.proofs.ThreadRanges.{start_thread_is}
-use Rattle.runs.specs.Labels.{Label, Go, Revoke, Stop, Close, label_thread}
-use Rattle.runs.specs.Merge.{lists_from}
-use Rattle.runs.specs.Steps.{Becomes, Leaves, Effect, Refused, Marks, Loads, Stores, Operates, State, outcome, stepped, effect_entry, added, trace, entries_of}
-use Rattle.runs.proofs.Lists.{own_in, own_out}
-use Rattle.runs.proofs.Swap.{load_inv, change_inv, steps_of, adds_of}
-use Rattle.runs.proofs.Kept.{lists_are}
+use Rattle.run_theory.specs.Labels.{Label, Go, Revoke, Stop, Close, label_thread}
+use Rattle.run_theory.specs.Merge.{lists_from}
+use Rattle.run_theory.specs.Steps.{Becomes, Leaves, Effect, Refused, Marks, Loads, Stores, Operates, State, outcome, stepped, effect_entry, added, trace, entries_of}
+use Rattle.run_theory.proofs.Lists.{own_in, own_out}
+use Rattle.run_theory.proofs.Swap.{load_inv, change_inv, steps_of, adds_of}
+use Rattle.run_theory.proofs.Kept.{lists_are}
 
 module _ (code : Code) (s : SetupView) where
   -- an operation appends its entry to the thread's list, and nothing else changes the list

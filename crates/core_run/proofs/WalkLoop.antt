@@ -10,13 +10,13 @@ use Rattle.sync_objects.specs.declared.entry.Entry.{Entry}
 use Rattle.flow_code.specs.declared.code.Code.{Code}
 use Rattle.flow_code.specs.Settle.{IsRunnable}
 use Rattle.flow_code.specs.Next.{has_ended}
-use Rattle.thread_flow.specs.declared.access.Access.{Access}
-use Rattle.thread_flow.specs.declared.access.Formula.{Formula}
-use Rattle.thread_flow.specs.declared.outcome.Ending.{Ending}
+use Rattle.thread_interpreter.specs.declared.access.Access.{Access}
+use Rattle.thread_interpreter.specs.declared.access.Formula.{Formula}
+use Rattle.thread_interpreter.specs.declared.outcome.Ending.{Ending}
 use Rattle.core_run.specs.declared.outcome.Walk.{Walk}
 use Rattle.core_run.specs.declared.outcome.Walk.TheVariants as walk_case
-use Rattle.thread_flow.specs.Endings.{ending_of, trap_of}
-use Rattle.thread_flow.specs.Flows.{Running}
+use Rattle.thread_interpreter.specs.Endings.{ending_of, trap_of}
+use Rattle.thread_interpreter.specs.Flows.{Running}
 use Rattle.core_run.specs.Kept.{IsKept}
 use Rattle.core_run.specs.Machine.{Told, machine, start_state, start_threads_from}
 use Rattle.core_run.specs.Parts.{AreUsable}
@@ -26,10 +26,10 @@ use Rattle.core_run.specs.Shown.{running_thread, told_thread, RunAll, IsShown, P
 use Rattle.core_run.proofs.Beginnings.{length-start_words}
 use Rattle.core_run.proofs.Reached.{kept}
 use Rattle.core_run.proofs.SoundWords.{sound_more}
-use Rattle.runs.specs.Steps.{State, Reaches}
-use Rattle.runs.specs.Walk.{part, IsSoloRun}
-use Rattle.runs.proofs.Solo.{solo_of_walk, walk-append}
-use Rattle.runs.proofs.Kept.{reaches_more, reaches_step}
+use Rattle.run_theory.specs.Steps.{State, Reaches}
+use Rattle.run_theory.specs.Walk.{part, IsSoloRun}
+use Rattle.run_theory.proofs.Solo.{solo_of_walk, walk-append}
+use Rattle.run_theory.proofs.Kept.{reaches_more, reaches_step}
 
 -- ---- states along a walk can be reached
 

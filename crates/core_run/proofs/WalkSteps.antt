@@ -6,9 +6,9 @@ use Rattle.std.proofs.lemmas.List.{append-nil}
 use Rattle.sync_objects.specs.Setup.{SetupView}
 use Rattle.sync_objects.specs.declared.entry.Entry.{Entry}
 use Rattle.flow_code.specs.declared.code.Code.{Code}
-use Rattle.thread_flow.specs.declared.access.Access.{Access}
-use Rattle.thread_flow.specs.declared.access.Formula.{Formula}
-use Rattle.thread_flow.specs.Flows.{Running}
+use Rattle.thread_interpreter.specs.declared.access.Access.{Access}
+use Rattle.thread_interpreter.specs.declared.access.Formula.{Formula}
+use Rattle.thread_interpreter.specs.Flows.{Running}
 use Rattle.core_run.specs.Machine.{Told, machine}
 use Rattle.core_run.specs.Parts.{OwnIs, MadeIs}
 use Rattle.core_run.specs.declared.parts.Own.{Own}
@@ -17,8 +17,8 @@ use Rattle.core_run.specs.declared.parts.Made.{Made}
 use Rattle.core_run.specs.declared.parts.Made.TheVariants as made_case
 use Rattle.core_run.specs.Shown.{RunAll, IsShown, with_read, StepsTo, MakesTo, EntryStep}
 use Rattle.core_run.proofs.Walked.{run_all_here, run_all_set, marked_step, accessed_step, no_step, refused_entry, silent_entry, printed_entry}
-use Rattle.runs.specs.Steps.{State}
-use Rattle.runs.specs.Walk.{alone, made}
+use Rattle.run_theory.specs.Steps.{State}
+use Rattle.run_theory.specs.Walk.{alone, made}
 
 module _ (code : Code) (s : SetupView) (flows : List Running) (t index : ℕ) (r r1 : Running) (all : RunAll code s 0 flows) (within : t < length flows) (same : index ≡ t) (read : r ≡ get_or flows index r) where
   pub at_thread : slice_get flows t ≡ Some r

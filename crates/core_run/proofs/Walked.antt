@@ -11,22 +11,22 @@ use Rattle.sync_objects.specs.declared.entry.Entry.{Entry}
 use Rattle.sync_objects.specs.declared.entry.Noted.{Noted}
 use Rattle.flow_code.specs.declared.code.Code.{Code}
 use Rattle.flow_code.specs.Threads.{Thread}
-use Rattle.thread_flow.specs.declared.access.Access.{Access}
-use Rattle.thread_flow.specs.declared.access.Formula.{Formula}
-use Rattle.thread_flow.specs.Flows.{Running}
+use Rattle.thread_interpreter.specs.declared.access.Access.{Access}
+use Rattle.thread_interpreter.specs.declared.access.Formula.{Formula}
+use Rattle.thread_interpreter.specs.Flows.{Running}
 use Rattle.core_run.specs.Machine.{Told, machine, effect_of, marked, accessed, operated}
 use Rattle.core_run.specs.Words.{cells_of, place_of}
 use Rattle.core_run.specs.Walks.{most_reads, kept_reads, pieces_of, joined}
-use Rattle.thread_flow.specs.Formulas.{meets}
+use Rattle.thread_interpreter.specs.Formulas.{meets}
 use Rattle.core_run.specs.Parts.{own_outcome, made_outcome, OwnIs, MadeIs}
 use Rattle.core_run.specs.declared.parts.Own.TheVariants as own
 use Rattle.core_run.specs.declared.parts.Made.TheVariants as made_case
 use Rattle.core_run.specs.Shown.{running_thread, told_thread, RunAll, IsShown, with_read, StepsTo, MakesTo}
-use Rattle.runs.specs.Labels.{Go, label_thread, label_of}
-use Rattle.runs.specs.Same.{same_entry}
-use Rattle.runs.specs.Steps.{State, Effect, Refused, Marks, Loads, Stores, Operates, Blocked, Leaves, change_outcome, outcome, with_thread, step_of_thread, stepped, entry_of_thread, effect_entry, added}
-use Rattle.runs.specs.Walk.{if_nothing, if_only, alone, made}
-use Rattle.runs.proofs.Apart.{thread_of_label}
+use Rattle.run_theory.specs.Labels.{Go, label_thread, label_of}
+use Rattle.run_theory.specs.Same.{same_entry}
+use Rattle.run_theory.specs.Steps.{State, Effect, Refused, Marks, Loads, Stores, Operates, Blocked, Leaves, change_outcome, outcome, with_thread, step_of_thread, stepped, entry_of_thread, effect_entry, added}
+use Rattle.run_theory.specs.Walk.{if_nothing, if_only, alone, made}
+use Rattle.run_theory.proofs.Apart.{thread_of_label}
 
 -- ---- threads
 

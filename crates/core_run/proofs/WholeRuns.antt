@@ -16,12 +16,12 @@ use Rattle.core_run.proofs.Beginnings.{start_word_at, start_number}
 use Rattle.core_run.proofs.Lawful.{lawful}
 use Rattle.core_run.proofs.Reached.{kept, start_length}
 use Rattle.core_run.proofs.Told.{list_is, lists_are_told}
-use Rattle.runs.specs.Labels.{Label}
-use Rattle.runs.specs.Merge.{IsMerge, lists_from, written_merge}
-use Rattle.runs.specs.Steps.{State, number_at, trace}
-use Rattle.runs.proofs.Converge.{converge}
-use Rattle.runs.proofs.Merges.{merge_walks}
-use Rattle.runs.proofs.Numbered.{trace_written}
+use Rattle.run_theory.specs.Labels.{Label}
+use Rattle.run_theory.specs.Merge.{IsMerge, lists_from, written_merge}
+use Rattle.run_theory.specs.Steps.{State, number_at, trace}
+use Rattle.run_theory.proofs.Converge.{converge}
+use Rattle.run_theory.proofs.Merges.{merge_walks}
+use Rattle.run_theory.proofs.Numbered.{trace_written}
 
 module _ (code : Code) (s : SetupView) (runnable : IsRunnable code) (limits : IsWithinLimits s) where
   -- the entries of a run from the start

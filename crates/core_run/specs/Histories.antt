@@ -3,13 +3,13 @@ use Rattle.std.specs.Prelude.{◌≡◌, ℕ, List, [], map, Option, Some, None,
 use Rattle.sync_objects.specs.Setup.{SetupView}
 use Rattle.sync_objects.specs.declared.entry.Entry.{Entry}
 use Rattle.sync_objects.specs.declared.entry.Noted.{Noted}
-use Rattle.abstract_machine.specs.declared.event.Action.TheVariants.{Ended}
+use Rattle.word_semantics.specs.declared.event.Action.TheVariants.{Ended}
 use Rattle.flow_code.specs.declared.code.Code.{Code}
 use Rattle.flow_code.specs.Settle.{next}
 use Rattle.core_run.specs.Machine.{Told, effect_of, machine, start_state}
-use Rattle.runs.specs.Labels.{Go, Label}
-use Rattle.runs.specs.Laws.{IsRaceFree}
-use Rattle.runs.specs.Steps.{AllEnded, Reaches, Refused, State, run}
+use Rattle.run_theory.specs.Labels.{Go, Label}
+use Rattle.run_theory.specs.Laws.{IsRaceFree}
+use Rattle.run_theory.specs.Steps.{AllEnded, Reaches, Refused, State, run}
 
 -- the state after a run from the start
 abbrev pub run_of : Code → SetupView → List Label → Option (State Told)

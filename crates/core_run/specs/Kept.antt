@@ -12,7 +12,7 @@ use Rattle.flow_code.specs.declared.code.Code.{Code}
 use Rattle.flow_code.specs.Ranges.{InRange}
 use Rattle.core_run.specs.Words.{cells_of, has_object, place_of, start_words}
 use Rattle.core_run.specs.Machine.{Told}
-use Rattle.runs.specs.Steps.{State}
+use Rattle.run_theory.specs.Steps.{State}
 
 -- each object's word is one that its kind can have, after at most so many operations
 pub record AreSound (code : Code) (s : SetupView) (most : ℕ) (words : List ℕ) : Type 0 where

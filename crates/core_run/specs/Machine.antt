@@ -12,19 +12,19 @@ use Rattle.sync_objects.specs.declared.operation.Op.{Op}
 use Rattle.sync_objects.specs.declared.operation.Op.TheVariants as op
 use Rattle.sync_objects.specs.declared.operation.OpName.{OpName}
 use Rattle.flow_code.specs.declared.code.Code.{Code}
-use Rattle.abstract_machine.specs.declared.event.Action.{Action}
-use Rattle.abstract_machine.specs.declared.event.Action.TheVariants as action
-use Rattle.abstract_machine.specs.Values.{number}
+use Rattle.word_semantics.specs.declared.event.Action.{Action}
+use Rattle.word_semantics.specs.declared.event.Action.TheVariants as action
+use Rattle.word_semantics.specs.Values.{number}
 use Rattle.flow_code.specs.Threads.{Thread}
 use Rattle.flow_code.specs.Next.{stepped, action_at, holds, gave_up, stopped, slot_closed, has_ended, has_begun}
-use Rattle.abstract_machine.specs.Limits.{most_entries, most_revokes}
+use Rattle.word_semantics.specs.Limits.{most_entries, most_revokes}
 use Rattle.flow_code.specs.Settle.{settled}
-use Rattle.thread_flow.specs.declared.access.Access.{Access}
+use Rattle.thread_interpreter.specs.declared.access.Access.{Access}
 use Rattle.core_run.specs.Words.{cells_of, has_object, place_of, start_words}
-use Rattle.thread_flow.specs.Pieces.{piece_next}
-use Rattle.thread_flow.specs.Starts.{start_thread}
-use Rattle.runs.specs.Labels.{Label, Go, Revoke, Stop, Close}
-use Rattle.runs.specs.Steps.{Change, NotAllowed, Becomes, Effect, Refused, Marks, Loads, Stores, Operates, Machine, State}
+use Rattle.thread_interpreter.specs.Pieces.{piece_next}
+use Rattle.thread_interpreter.specs.Starts.{start_thread}
+use Rattle.run_theory.specs.Labels.{Label, Go, Revoke, Stop, Close}
+use Rattle.run_theory.specs.Steps.{Change, NotAllowed, Becomes, Effect, Refused, Marks, Loads, Stores, Operates, Machine, State}
 
 -- a thread with what it has done: its entries with their numbers, its accesses, and what each of its prints has printed
 pub record Told : Type 0 where

@@ -8,10 +8,10 @@ use Rattle.sync_objects.specs.declared.entry.Entry.{Entry}
 use Rattle.sync_objects.specs.declared.object.ObjId.{ObjId}
 use Rattle.sync_objects.specs.declared.operation.Op.{Op}
 use Rattle.sync_objects.specs.declared.operation.Op.TheVariants as op
-use Rattle.abstract_machine.specs.declared.event.Action.TheVariants as action
+use Rattle.word_semantics.specs.declared.event.Action.TheVariants as action
 use Rattle.core_run.specs.Kept.{AreSound}
 use Rattle.flow_code.specs.declared.code.Code.{Code}
-use Rattle.abstract_machine.specs.declared.event.Action.{Action}
+use Rattle.word_semantics.specs.declared.event.Action.{Action}
 use Rattle.flow_code.specs.Threads.{Thread}
 use Rattle.core_run.specs.Machine.{Told, effect_of, action_effect, marked, accessed, operated, entry_of}
 use Rattle.core_run.specs.Words.{cells_of, has_object, place_of}
@@ -20,9 +20,9 @@ use Rattle.core_run.specs.declared.parts.Own.{Own}
 use Rattle.core_run.specs.declared.parts.Own.TheVariants as own
 use Rattle.core_run.specs.declared.parts.Made.{Made}
 use Rattle.core_run.specs.declared.parts.Made.TheVariants as made
-use Rattle.runs.specs.Labels.{Go, label_of}
-use Rattle.runs.specs.Same.{same_entry}
-use Rattle.runs.specs.Steps.{Effect, Refused, Marks, Loads, Stores, Operates, Becomes, Outcome, Blocked, Leaves, load_outcome, change_outcome}
+use Rattle.run_theory.specs.Labels.{Go, label_of}
+use Rattle.run_theory.specs.Same.{same_entry}
+use Rattle.run_theory.specs.Steps.{Effect, Refused, Marks, Loads, Stores, Operates, Becomes, Outcome, Blocked, Leaves, load_outcome, change_outcome}
 
 -- what an effect leaves, if it is no operation
 abbrev pub own_outcome : List ℕ → Effect Told → Outcome Told

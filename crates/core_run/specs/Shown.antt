@@ -3,22 +3,22 @@ use Rattle.std.specs.Prelude.{◌≡◌, ℕ, suc, ◌+◌, nat_lt, ◌&&◌, Bo
 use Rattle.sync_objects.specs.Setup.{SetupView}
 use Rattle.flow_code.specs.declared.code.Code.{Code}
 use Rattle.flow_code.specs.Threads.{Thread}
-use Rattle.thread_flow.specs.declared.access.Access.{Access}
-use Rattle.thread_flow.specs.declared.access.Formula.{Formula}
-use Rattle.thread_flow.specs.Flows.{Running}
+use Rattle.thread_interpreter.specs.declared.access.Access.{Access}
+use Rattle.thread_interpreter.specs.declared.access.Formula.{Formula}
+use Rattle.thread_interpreter.specs.Flows.{Running}
 use Rattle.sync_objects.specs.declared.entry.Entry.{Entry}
 use Rattle.core_run.specs.Machine.{Told, machine, start_state}
 use Rattle.core_run.specs.Walks.{most_reads, kept_reads, pieces_of, printed_between, Trapping, NoTrap, TrapOf, trap_or}
-use Rattle.thread_flow.specs.Formulas.{meets}
-use Rattle.thread_flow.specs.Endings.{ending_of, trap_of}
-use Rattle.thread_flow.specs.declared.outcome.Ending.{Ending}
+use Rattle.thread_interpreter.specs.Formulas.{meets}
+use Rattle.thread_interpreter.specs.Endings.{ending_of, trap_of}
+use Rattle.thread_interpreter.specs.declared.outcome.Ending.{Ending}
 use Rattle.flow_code.specs.Next.{has_ended}
 use Rattle.std.specs.List.{filter_map, flat_map}
 use Rattle.core_run.specs.declared.outcome.Walk.{Walk}
 use Rattle.core_run.specs.declared.outcome.Walk.TheVariants as walk
-use Rattle.runs.specs.Labels.{Go}
-use Rattle.runs.specs.Steps.{State, stepped, added}
-use Rattle.runs.specs.Walk.{alone, made, part}
+use Rattle.run_theory.specs.Labels.{Go}
+use Rattle.run_theory.specs.Steps.{State, stepped, added}
+use Rattle.run_theory.specs.Walk.{alone, made, part}
 
 -- its state alone, without the room that is kept for it
 abbrev pub running_thread : Running → Thread

@@ -5,17 +5,17 @@ use Rattle.sync_objects.specs.Setup.{SetupView}
 use Rattle.sync_objects.specs.declared.entry.Entry.{Entry}
 use Rattle.rr_base.specs.declared.trap.Trap.{Trap}
 use Rattle.flow_code.specs.declared.code.Code.{Code}
-use Rattle.thread_flow.specs.declared.access.Access.{Access}
-use Rattle.thread_flow.specs.declared.access.Formula.{Formula}
-use Rattle.thread_flow.specs.declared.outcome.Ending.{Ending}
+use Rattle.thread_interpreter.specs.declared.access.Access.{Access}
+use Rattle.thread_interpreter.specs.declared.access.Formula.{Formula}
+use Rattle.thread_interpreter.specs.declared.outcome.Ending.{Ending}
 use Rattle.core_run.specs.declared.outcome.Walk.{Walk}
 use Rattle.core_run.specs.declared.outcome.Walk.TheVariants as walk
-use Rattle.thread_flow.specs.Endings.{ending_of, trap_of}
-use Rattle.thread_flow.specs.Formulas.{meets}
+use Rattle.thread_interpreter.specs.Endings.{ending_of, trap_of}
+use Rattle.thread_interpreter.specs.Formulas.{meets}
 use Rattle.core_run.specs.Machine.{Told, machine, start_state}
-use Rattle.runs.specs.Steps.{State, AllEnded}
-use Rattle.runs.specs.Walk.{part}
-use Rattle.runs.specs.Walk as solo
+use Rattle.run_theory.specs.Steps.{State, AllEnded}
+use Rattle.run_theory.specs.Walk.{part}
+use Rattle.run_theory.specs.Walk as solo
 
 -- ---- what is kept of accesses
 

@@ -7,7 +7,7 @@ use Rattle.sync_objects.specs.declared.object.ObjId.TheVariants as object
 use Rattle.rr_base.specs.declared.layout.CellKind.{CellKind}
 use Rattle.rr_base.specs.declared.layout.CellKind.TheVariants as kind
 use Rattle.flow_code.specs.declared.code.Code.{Code}
-use Rattle.abstract_machine.specs.Operators.{based}
+use Rattle.word_semantics.specs.Operators.{based}
 
 -- how many cells there are: two hand-off cells for each slot, the globals, and an arena for each slot
 abbrev pub cells_of : Code → SetupView → ℕ

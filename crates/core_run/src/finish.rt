@@ -7,7 +7,7 @@ ghost use Rattle.core_run.specs.Shown.{all_ended, endings, trap_from, ShownAs};
 use crate::outcome::Walk;
 use rr_base::{Bytes, List, Trap};
 use std::alloc::{AllocError, Global};
-use thread_flow::{Access, Ending, Flow};
+use thread_interpreter::{Access, Ending, Flow};
 
 // Whether all threads have ended.
 pub(crate) fn have_ended(flows: &[Flow]) -> bool

@@ -9,10 +9,10 @@ ghost use Rattle.core_run.specs.Histories.{run_of, IsReachable, HasNoRace, HaveE
 ghost use Rattle.core_run.specs.Kept.{IsKept};
 ghost use Rattle.core_run.specs.Machine.{Told, machine, start_state};
 ghost use Rattle.core_run.specs.Walks.{walk_of};
-ghost use Rattle.runs.specs.Labels.{Label};
-ghost use Rattle.runs.specs.Laws.{IsLawful};
-ghost use Rattle.runs.specs.Merge.{IsMerge, written_merge};
-ghost use Rattle.runs.specs.Steps.{State};
+ghost use Rattle.run_theory.specs.Labels.{Label};
+ghost use Rattle.run_theory.specs.Laws.{IsLawful};
+ghost use Rattle.run_theory.specs.Merge.{IsMerge, written_merge};
+ghost use Rattle.run_theory.specs.Steps.{State};
 
 /// Law: the machine of a runnable code keeps to the laws of runs. A thread's own steps are loads and stores of cells,
 /// marks, and operations of which each draws the next number of its object. Revokes, stops and closes are made of it

@@ -1,5 +1,5 @@
 //! Runs of flow code: the machine whose threads run a code over shared words, and the walk by a log. It stands on
-//! `thread_flow` and `runs`. It promises that every law of `runs` holds of the machine, and that a walk comes to what
+//! `thread_interpreter` and `run_theory`. It promises that every law of `run_theory` holds of the machine, and that a walk comes to what
 //! `specs/Walks.antt` says.
 #![tactic(auto)]
 
@@ -14,7 +14,7 @@ mod start;
 mod walker;
 mod walking;
 
-pub use abstract_machine::Action;
+pub use word_semantics::Action;
 pub use laws::{law_converge, law_kept, law_machine, law_merges, law_written_merge};
 pub use outcome::Walk;
 pub use parts::{has_object, place_of};

@@ -8,15 +8,15 @@ ghost use Rattle.core_run.specs.Parts.{MadeIs, AreUsable, LacksWord, HasWord};
 ghost use Rattle.std.specs.Prelude.{MatchOption};
 ghost use Rattle.sync_objects.specs.Names.{name_of, Fits};
 ghost use Rattle.sync_objects.specs.Sound.{IsInRange};
-ghost use Rattle.runs.specs.Labels.{Go, Revoke, Stop, Close, label_of};
+ghost use Rattle.run_theory.specs.Labels.{Go, Revoke, Stop, Close, label_of};
 ghost use Rattle.std.specs.Prelude.{slice_set};
 
 use crate::parts::{Made, has_object, perform, place_of, word_at};
 use crate::same::same_entry;
-use abstract_machine::Action;
+use word_semantics::Action;
 use std::alloc::AllocError;
 use sync_objects::{Entry, ObjId, Op, OpName, advance};
-use thread_flow::Flow;
+use thread_interpreter::Flow;
 
 // The entry's operation as the thread's own next one.
 fn make_own(

@@ -1,5 +1,5 @@
 use rr_base::{Bytes, List, Trap};
-use thread_flow::{Access, Ending};
+use thread_interpreter::{Access, Ending};
 
 /// What the walk of a list of entries comes to.
 #[derive(Debug, Drop)]

@@ -4,17 +4,17 @@ ghost use Rattle.sync_objects.specs.Setup.{IsWithinLimits};
 ghost use Rattle.flow_code.specs.Settle.{IsRunnable};
 ghost use Rattle.flow_code.specs.Next.{action_at};
 ghost use Rattle.flow_code.specs.Settle.{settled};
-ghost use Rattle.abstract_machine.specs.declared.event.Action.TheVariants as action;
+ghost use Rattle.word_semantics.specs.declared.event.Action.TheVariants as action;
 ghost use Rattle.core_run.specs.Machine.{Told};
 ghost use Rattle.core_run.specs.Words.{cells_of, has_object as has_object_of, place_of as place_of_object};
 ghost use Rattle.core_run.specs.Parts.{OwnOf, OwnIs, KeepsObjects, is_print as is_print_of, PerformedIs, AreUsable};
 
-use abstract_machine::Action;
+use word_semantics::Action;
 use flow_code::Code;
 use rr_base::Bytes;
 use std::alloc::AllocError;
 use sync_objects::{ObjId, Op, Setup, advance};
-use thread_flow::{Access, Flow};
+use thread_interpreter::{Access, Flow};
 
 /// What a thread's own step has come to.
 #[derive(Clone, Copy)]

@@ -1,12 +1,12 @@
 // What is kept of a thread's accesses.
 ghost use Rattle.std.specs.Prelude.{◌≡◌, ◌<◌, length, slice_get, slice_set, Some, OnOk, List};
-ghost use Rattle.thread_flow.specs.Formulas.{meets as meets_of, same_number as same_number_of, is_of_thread as is_of, has_value as has_value_of};
+ghost use Rattle.thread_interpreter.specs.Formulas.{meets as meets_of, same_number as same_number_of, is_of_thread as is_of, has_value as has_value_of};
 ghost use Rattle.core_run.specs.Shown.{with_read};
-ghost use Rattle.thread_flow.specs.declared.access.Access.{Access as AccessOf};
+ghost use Rattle.thread_interpreter.specs.declared.access.Access.{Access as AccessOf};
 
 use rr_base::List;
 use std::alloc::AllocError;
-use thread_flow::{Access, Formula};
+use thread_interpreter::{Access, Formula};
 
 // The most accesses that are kept of one thread.
 const MOST_READS: usize = 262_144;

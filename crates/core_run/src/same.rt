@@ -1,6 +1,6 @@
 // Whether two entries are the same.
 ghost use Rattle.std.specs.Prelude.{◌≡◌};
-ghost use Rattle.runs.specs.Same.{same_object as same_object_of, same_entry as same_entry_of, operation_index as operation_index_of};
+ghost use Rattle.run_theory.specs.Same.{same_object as same_object_of, same_entry as same_entry_of, operation_index as operation_index_of};
 
 use sync_objects::{Entry, ObjId, OpName};
 

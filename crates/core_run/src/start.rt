@@ -8,7 +8,7 @@ use flow_code::Code;
 use rr_base::CellKind;
 use std::alloc::{AllocError, Global};
 use sync_objects::{ObjId, Setup, start_word};
-use thread_flow::Flow;
+use thread_interpreter::Flow;
 
 fn push_zeros(words: &mut Vec<u64>, count: usize) -> Result<(), AllocError>
     ensures { OnOk result (words.new.items ≡ words.old.items ++ replicate count 0) }

@@ -6,12 +6,12 @@ ghost use Rattle.core_run.specs.Machine.{Told};
 ghost use Rattle.core_run.specs.Words.{cells_of};
 ghost use Rattle.core_run.specs.Parts.{KeepsObjects, AreUsable};
 ghost use Rattle.core_run.specs.Shown.{RunAll, IsShown, OwnStep, OwnSteps, EntryStep, PartStep};
-ghost use Rattle.thread_flow.specs.Flows.{Running};
+ghost use Rattle.thread_interpreter.specs.Flows.{Running};
 ghost use Rattle.std.specs.Prelude.{Some};
-ghost use Rattle.runs.specs.Steps.{State};
+ghost use Rattle.run_theory.specs.Steps.{State};
 ghost use Rattle.std.specs.Prelude.{List as ListOf};
-ghost use Rattle.thread_flow.specs.declared.access.Access.{Access as AccessOf};
-ghost use Rattle.thread_flow.specs.declared.access.Formula.{Formula as FormulaOf};
+ghost use Rattle.thread_interpreter.specs.declared.access.Access.{Access as AccessOf};
+ghost use Rattle.thread_interpreter.specs.declared.access.Formula.{Formula as FormulaOf};
 
 use crate::making::make_entry;
 use crate::parts::{Made, Own, own_step};
@@ -20,7 +20,7 @@ use flow_code::Code;
 use rr_base::{Bytes, List};
 use std::alloc::AllocError;
 use sync_objects::{Entry, Setup};
-use thread_flow::{Access, Flow, Formula};
+use thread_interpreter::{Access, Flow, Formula};
 
 // One own step of a thread that makes no entry, if its next is one.
 fn own_step_in(

@@ -11,7 +11,7 @@ use flow_code::Code;
 use rr_base::{Bytes, List};
 use std::alloc::{AllocError, Global};
 use sync_objects::{Entry, Setup};
-use thread_flow::{Access, Formula};
+use thread_interpreter::{Access, Formula};
 
 // No accesses yet, for each thread.
 fn start_reads(alloc: Global, slots: u8) -> Result<Vec<List<Access>>, AllocError>

@@ -1,7 +1,7 @@
 // The accesses of a walk in which two threads count, and after them `main` prints.
 ghost use Rattle.flow_code.specs.Settle.{IsRunnable};
 ghost use Rattle.core_run.specs.Walks.{WalkIs};
-ghost use Rattle.thread_flow.specs.declared.access.Formula.{Formula as FormulaOf};
+ghost use Rattle.thread_interpreter.specs.declared.access.Formula.{Formula as FormulaOf};
 
 use crate::tests::{
     FIRST_COUNTS, JOINS_AND_PRINTS, Row, SECOND_COUNTS, STARTS, block_code, entries_of,
@@ -13,7 +13,7 @@ use std::alloc::{AllocError, Global};
 use std::process::Abort;
 use std::test::Fail;
 use sync_objects::Setup;
-use thread_flow::{Access, Formula};
+use thread_interpreter::{Access, Formula};
 use walk_accesses::{Seen, access_at, first_in_walk};
 use watch_calls::watch_of;
 

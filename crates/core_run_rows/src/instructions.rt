@@ -1,5 +1,5 @@
 // Instructions, functions and regions of which the tests' codes are made.
-use abstract_machine::{BinaryOp, LibraryCall};
+use word_semantics::{BinaryOp, LibraryCall};
 use flow_code::{Act, Base, Function, Instr, Region, Work};
 use rr_base::{CellKind, Layout, List, Position, PtrWord, Site};
 use std::alloc::{AllocError, Global};

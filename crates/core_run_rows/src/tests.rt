@@ -2,7 +2,7 @@
 use crate::instructions::{
     add, address, binary, call, cell, compute, constant, function, load, lone, site, store, whole,
 };
-use abstract_machine::{BinaryOp, LibraryCall, Piece};
+use word_semantics::{BinaryOp, LibraryCall, Piece};
 use core_run::{Entry, Walk, walk};
 use flow_code::{Act, Base, Bound, Code, Function, Instr, LockInfo, Region, Span, Work, is_valid};
 use rr_base::{Bytes, CellKind, List, PtrWord, Site};
@@ -10,7 +10,7 @@ use std::alloc::{AllocError, Global};
 use std::process::Abort;
 use std::test::Fail;
 use sync_objects::{ObjId, OpName, Setup};
-use thread_flow::Formula;
+use thread_interpreter::Formula;
 
 pub type Row = (u8, u32, OpName, ObjId);
 

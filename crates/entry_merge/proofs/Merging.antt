@@ -4,9 +4,9 @@ use Rattle.std.specs.Prelude.{if◌then◌else◌, ◌==◌, map}
 use Rattle.sync_objects.specs.declared.entry.Entry.{Entry}
 use Rattle.sync_objects.specs.declared.entry.Noted.{Noted}
 use Rattle.sync_objects.specs.declared.object.ObjId.{ObjId}
-use Rattle.runs.specs.Same.{same_object}
-use Rattle.runs.specs.Merge.{entries_at, Taken, Stuck, Takes, after_list, next_entry, merged_on, merged_after, total_length, written_merge}
-use Rattle.runs.proofs.Written.{entries_at-append}
+use Rattle.run_theory.specs.Same.{same_object}
+use Rattle.run_theory.specs.Merge.{entries_at, Taken, Stuck, Takes, after_list, next_entry, merged_on, merged_after, total_length, written_merge}
+use Rattle.run_theory.proofs.Written.{entries_at-append}
 use Rattle.entry_merge.specs.Counts.{next_by}
 
 -- only the counts matter

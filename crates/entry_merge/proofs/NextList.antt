@@ -7,7 +7,7 @@ use Rattle.std.proofs.lemmas.Option.{same_Some}
 use Rattle.std.proofs.lemmas.Iterator.Adapters.{position_from-zero}
 use Rattle.sync_objects.specs.declared.entry.Noted.{Noted}
 use Rattle.sync_objects.specs.declared.object.ObjId.{ObjId}
-use Rattle.runs.specs.Merge.{Stuck, Takes, after_list}
+use Rattle.run_theory.specs.Merge.{Stuck, Takes, after_list}
 use Rattle.entry_merge.specs.Counts.{is_next, next_by, lists_of}
 
 some_is_not_none : {X : Type 0} {x : X} → Some x ≡ None → ⊥

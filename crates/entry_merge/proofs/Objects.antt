@@ -3,7 +3,7 @@ use Rattle.std.proofs.Common.{◌≡◌, ℕ, Bool, List, [], ◌∷◌, Some, r
 use Rattle.std.specs.Map.{lookup}
 use Rattle.sync_objects.specs.declared.object.ObjId.{ObjId}
 use Rattle.sync_objects.specs.contracts.object.ObjIdPartialEq.TheImpl
-use Rattle.runs.specs.Same.{same_object}
+use Rattle.run_theory.specs.Same.{same_object}
 
 -- the derived test of equality
 abbrev pub eq : ObjId → ObjId → Bool

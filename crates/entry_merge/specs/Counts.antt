@@ -5,8 +5,8 @@ use Rattle.std.specs.Option.{option_map_or}
 use Rattle.indexmap.specs.IndexMap.{IndexMap, get}
 use Rattle.sync_objects.specs.declared.entry.Noted.{Noted}
 use Rattle.sync_objects.specs.declared.object.ObjId.{ObjId}
-use Rattle.runs.specs.Merge.{Taken, Stuck, Takes, after_list}
-use Rattle.runs.specs.Same.{same_object}
+use Rattle.run_theory.specs.Merge.{Taken, Stuck, Takes, after_list}
+use Rattle.run_theory.specs.Same.{same_object}
 
 -- the number that the map has for the object; 0 where it has none
 abbrev pub count_in : {S : Type 0} → IndexMap ObjId ℕ S → ObjId → ℕ

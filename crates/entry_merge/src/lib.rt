@@ -1,11 +1,11 @@
-//! The written merge of the lists of a run's entries. It stands on `runs`, whose laws say that on such lists it takes all
+//! The written merge of the lists of a run's entries. It stands on `run_theory`, whose laws say that on such lists it takes all
 //! entries. It promises exactly that merge, whatever the lists are.
 #![tactic(auto)]
 
 ghost use Rattle.std.specs.Prelude.{◌≡◌, map, position, IfOk, IfSome, MatchOption, OnOk, length, ◌<◌};
 ghost use Rattle.sync_objects.specs.declared.entry.Noted.{Noted};
-ghost use Rattle.runs.specs.Merge.{Stuck, Takes, written_merge};
-ghost use Rattle.runs.specs.Same.{same_object};
+ghost use Rattle.run_theory.specs.Merge.{Stuck, Takes, written_merge};
+ghost use Rattle.run_theory.specs.Same.{same_object};
 ghost use Rattle.entry_merge.specs.Counts.{count_in, AreCounted, is_next, next_by, lists_of};
 
 #[cfg(test)]

@@ -11,14 +11,14 @@ use Rattle.flow_code.specs.declared.act.Act.TheVariants as act
 use Rattle.flow_code.specs.declared.code.Code.{Code}
 use Rattle.flow_code.specs.declared.thread.Phase.{Phase}
 use Rattle.flow_code.specs.declared.thread.Phase.TheVariants as phase
-use Rattle.abstract_machine.specs.declared.event.Onward.{Onward}
-use Rattle.abstract_machine.specs.declared.event.Onward.TheVariants as onward
-use Rattle.abstract_machine.specs.declared.library_call.LibraryCall.{LibraryCall}
-use Rattle.abstract_machine.specs.Cells.{cells_in}
-use Rattle.abstract_machine.specs.Library.{library_onward, piece_of}
-use Rattle.abstract_machine.specs.Pointers.{pointer_at}
-use Rattle.abstract_machine.specs.Registers.{register, words_of}
-use Rattle.abstract_machine.specs.Values.{number, word}
+use Rattle.word_semantics.specs.declared.event.Onward.{Onward}
+use Rattle.word_semantics.specs.declared.event.Onward.TheVariants as onward
+use Rattle.word_semantics.specs.declared.library_call.LibraryCall.{LibraryCall}
+use Rattle.word_semantics.specs.Cells.{cells_in}
+use Rattle.word_semantics.specs.Library.{library_onward, piece_of}
+use Rattle.word_semantics.specs.Pointers.{pointer_at}
+use Rattle.word_semantics.specs.Registers.{register, words_of}
+use Rattle.word_semantics.specs.Values.{number, word}
 use Rattle.flow_code.specs.Holding.{parting, left_after}
 use Rattle.flow_code.specs.Works.{work_of}
 use Rattle.flow_code.specs.Threads.{Frame, Thread, arena_end, is_main, objects_in, fitted, first_frame}

@@ -11,15 +11,15 @@ use Rattle.flow_code.specs.declared.code.Code.{Code}
 use Rattle.flow_code.specs.declared.thread.Phase.{Phase}
 use Rattle.flow_code.specs.declared.thread.Phase.TheVariants as phase
 use Rattle.flow_code.specs.declared.thread.Stripe.{Stripe}
-use Rattle.abstract_machine.specs.declared.library_call.LibraryCall.{LibraryCall}
-use Rattle.abstract_machine.specs.declared.library_call.LibraryCall.TheVariants as call
-use Rattle.abstract_machine.specs.declared.event.Due.{Due}
-use Rattle.abstract_machine.specs.declared.event.Due.TheVariants as due
-use Rattle.abstract_machine.specs.Cells.{access_kind}
-use Rattle.abstract_machine.specs.Library.{library_due}
-use Rattle.abstract_machine.specs.Limits.{most_frames}
-use Rattle.abstract_machine.specs.Pointers.{resolved}
-use Rattle.abstract_machine.specs.Registers.{register, words_of}
+use Rattle.word_semantics.specs.declared.library_call.LibraryCall.{LibraryCall}
+use Rattle.word_semantics.specs.declared.library_call.LibraryCall.TheVariants as call
+use Rattle.word_semantics.specs.declared.event.Due.{Due}
+use Rattle.word_semantics.specs.declared.event.Due.TheVariants as due
+use Rattle.word_semantics.specs.Cells.{access_kind}
+use Rattle.word_semantics.specs.Library.{library_due}
+use Rattle.word_semantics.specs.Limits.{most_frames}
+use Rattle.word_semantics.specs.Pointers.{resolved}
+use Rattle.word_semantics.specs.Registers.{register, words_of}
 use Rattle.flow_code.specs.Holding.{parting, parting_due}
 use Rattle.flow_code.specs.Works.{is_pointer, work_of}
 use Rattle.flow_code.specs.Threads.{Thread, arena_end, is_main, fitted}

@@ -6,20 +6,20 @@ use Rattle.sync_objects.specs.Setup.{SetupView, IsWithinLimits}
 use Rattle.rr_base.specs.declared.trap.Trap.{Trap}
 use Rattle.flow_code.specs.declared.code.Code.{Code}
 use Rattle.flow_code.specs.declared.thread.Phase.TheVariants as phase
-use Rattle.abstract_machine.specs.declared.event.Due.{Due}
-use Rattle.abstract_machine.specs.declared.event.Due.TheVariants as due
-use Rattle.abstract_machine.specs.declared.event.Action.{Action}
+use Rattle.word_semantics.specs.declared.event.Due.{Due}
+use Rattle.word_semantics.specs.declared.event.Due.TheVariants as due
+use Rattle.word_semantics.specs.declared.event.Action.{Action}
 use Rattle.flow_code.specs.Threads.{Thread, line_of}
 use Rattle.flow_code.specs.Next.{due_of, action_of, action_at, stepped, has_begun, has_ended}
 use Rattle.flow_code.specs.Settle.{settled, IsRunnable}
 use Rattle.flow_code.proofs.Counts.{ended_due}
 use Rattle.flow_code.proofs.Settle.{action_is, settled_keeps, settled_quiet}
 use Rattle.weak_code.specs.Stripped.{strip}
-use Rattle.c_core.specs.Runs.{Run, does, traps, ends}
+use Rattle.core_tree.specs.Runs.{Run, does, traps, ends}
 use Rattle.lower_sound.specs.Follows.{Comes, IsFull, Prints, Follows}
-use Rattle.source_runs.proofs.Makings.{IsAt, event, stripe, full, IsMaking}
-use Rattle.source_runs.proofs.Phases.{event_begins}
-use Rattle.source_runs.proofs.Proper.{IsEvent, HasEvents}
+use Rattle.lowering_simulation.proofs.Makings.{IsAt, event, stripe, full, IsMaking}
+use Rattle.lowering_simulation.proofs.Phases.{event_begins}
+use Rattle.lowering_simulation.proofs.Proper.{IsEvent, HasEvents}
 use Rattle.erasure.specs.Erased.{IsAnywhere}
 use Rattle.erasure.proofs.ActDues.{steps_aside}
 use Rattle.erasure.proofs.Bare.{bare, HasObjects}

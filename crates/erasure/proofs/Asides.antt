@@ -11,8 +11,8 @@ use Rattle.flow_code.specs.declared.region.Region.{Region}
 use Rattle.flow_code.specs.declared.thread.Phase.{Phase}
 use Rattle.flow_code.specs.declared.thread.Phase.TheVariants as phase
 use Rattle.flow_code.specs.declared.thread.Stripe.{Stripe}
-use Rattle.abstract_machine.specs.declared.event.Due.{Due}
-use Rattle.abstract_machine.specs.declared.event.Due.TheVariants as due
+use Rattle.word_semantics.specs.declared.event.Due.{Due}
+use Rattle.word_semantics.specs.declared.event.Due.TheVariants as due
 use Rattle.flow_code.specs.Stripes.{stripe_of}
 use Rattle.flow_code.specs.Holding.{region_of, lacked, take_or_quiet, taken, open_place, to_give, give_or_quiet, gives_at, parting, parting_due, owes, left_after}
 use Rattle.flow_code.specs.Threads.{Thread, OpenRegion}

@@ -3,16 +3,16 @@ use Rattle.std.proofs.Common.{◌≡◌, ℕ, false, List, [], ◌∷◌, map, N
 use Rattle.sync_objects.specs.declared.object.ObjId.TheVariants as object
 use Rattle.sync_objects.specs.declared.operation.Op.{Op}
 use Rattle.sync_objects.specs.declared.operation.Op.TheVariants as op
-use Rattle.abstract_machine.specs.declared.event.Action.{Action}
-use Rattle.abstract_machine.specs.declared.event.Action.TheVariants as action
+use Rattle.word_semantics.specs.declared.event.Action.{Action}
+use Rattle.word_semantics.specs.declared.event.Action.TheVariants as action
 use Rattle.flow_code.specs.declared.act.Act.{Act}
 use Rattle.flow_code.specs.declared.act.Act.TheVariants as act
 use Rattle.flow_code.specs.declared.act.Instr.{Instr}
 use Rattle.flow_code.specs.declared.code.Code.{Code}
 use Rattle.flow_code.specs.Threads.{Frame}
-use Rattle.c_core.specs.Runs.{done}
-use Rattle.source_runs.specs.RunEvents.{without_stripes}
-use Rattle.source_runs.specs.SourceRuns.{ThreadTransition, own, stops, bytes_of}
+use Rattle.core_tree.specs.Runs.{done}
+use Rattle.lowering_simulation.specs.RunEvents.{without_stripes}
+use Rattle.lowering_simulation.specs.SourceRuns.{ThreadTransition, own, stops, bytes_of}
 use Rattle.erasure.proofs.Bare.{frame_with, bare_frame}
 
 -- ---- transitions

@@ -16,10 +16,10 @@ use Rattle.flow_code.specs.Threads.{Object, object, object_of, and_objects, obje
 use Rattle.facts.specs.Accesses.{Access}
 use Rattle.facts.specs.Pairs.{access_in, act_of}
 use Rattle.facts.specs.PointsTo.{Tables}
-use Rattle.weak_facts.specs.declared.grain.Grain.{Grain}
-use Rattle.weak_facts.specs.declared.grain.Grain.TheVariants as grain
-use Rattle.weak_facts.specs.declared.grain.Grained.{Grained}
-use Rattle.weak_facts.specs.declared.range.Range.{Range}
+use Rattle.weak_lock_facts.specs.declared.grain.Grain.{Grain}
+use Rattle.weak_lock_facts.specs.declared.grain.Grain.TheVariants as grain
+use Rattle.weak_lock_facts.specs.declared.grain.Grained.{Grained}
+use Rattle.weak_lock_facts.specs.declared.range.Range.{Range}
 use Rattle.weak_code.specs.declared.stretch.RacyAccess.{RacyAccess}
 use Rattle.weak_code.specs.declared.stretch.Stretch.{Stretch}
 use Rattle.weak_code.specs.Places.{numbers_from, begins_at, ends_before, beginning, gives, takes, turned, before, enter}

@@ -8,10 +8,10 @@ use Rattle.flow_code.specs.declared.code.LoopInfo.{LoopInfo}
 use Rattle.flow_code.specs.declared.region.Bound.{Bound}
 use Rattle.flow_code.specs.Threads.{objects_of}
 use Rattle.weak_code.specs.Stripped.{is_plain}
-use Rattle.c_core.specs.Core.{Exp, Statement, block, compute, branch, branch_else, while_loop, do_loop, for_loop, break_at, continue_at, gives, Statements, no_statement, and_statement, Function, Program}
-use Rattle.lower_parts.specs.Kept.{kept, maybe_kept}
-use Rattle.lower_parts.specs.Sizes.{exp_size, maybe_size, test_size}
-use Rattle.lower_parts.specs.Loops.{lowered_size, limit_of, step_of, loop_of, statement_loops, statements_loops}
+use Rattle.core_tree.specs.Core.{Exp, Statement, block, compute, branch, branch_else, while_loop, do_loop, for_loop, break_at, continue_at, gives, Statements, no_statement, and_statement, Function, Program}
+use Rattle.lowering_parts.specs.Kept.{kept, maybe_kept}
+use Rattle.lowering_parts.specs.Sizes.{exp_size, maybe_size, test_size}
+use Rattle.lowering_parts.specs.Loops.{lowered_size, limit_of, step_of, loop_of, statement_loops, statements_loops}
 use Rattle.flow_lower.specs.Lowered.{body_code, function_code, lowered}
 use Rattle.lower_sound.proofs.Functions.{its_objects}
 use Rattle.lower_sound.proofs.Objects.{count_of_objects}

@@ -10,20 +10,20 @@ use Rattle.rr_base.specs.declared.trap.Trap.TheVariants as trap
 use Rattle.flow_code.specs.declared.code.Code.{Code}
 use Rattle.flow_code.specs.declared.thread.Phase.TheVariants as phase
 use Rattle.flow_code.specs.declared.thread.Stripe.{Stripe}
-use Rattle.abstract_machine.specs.declared.event.Due.{Due}
-use Rattle.abstract_machine.specs.declared.event.Due.TheVariants as due
-use Rattle.abstract_machine.specs.declared.event.Action.{Action}
-use Rattle.abstract_machine.specs.Limits.{most_entries}
+use Rattle.word_semantics.specs.declared.event.Due.{Due}
+use Rattle.word_semantics.specs.declared.event.Due.TheVariants as due
+use Rattle.word_semantics.specs.declared.event.Action.{Action}
+use Rattle.word_semantics.specs.Limits.{most_entries}
 use Rattle.flow_code.specs.Threads.{Thread}
 use Rattle.flow_code.specs.Next.{first_owed, retake, phase_due, phase_after, due_of, action_of, action_at, counted, stepped}
 use Rattle.flow_code.proofs.Counts.{stepped_is, phase_keeps, quiet_keeps}
 use Rattle.flow_code.proofs.Dues.{quiet_by_code, quiet_due}
 use Rattle.flow_code.proofs.Settle.{action_is, quiet_action_at}
 use Rattle.weak_code.specs.Stripped.{strip}
-use Rattle.c_core.specs.Runs.{Run, does, traps, ends}
+use Rattle.core_tree.specs.Runs.{Run, does, traps, ends}
 use Rattle.lower_sound.specs.Follows.{Comes, here, quietly, IsFull, Prints, Follows}
-use Rattle.source_runs.proofs.Makings.{IsAt, IsAtStripe, stripe, full}
-use Rattle.source_runs.proofs.Proper.{IsEvent, HasEvents}
+use Rattle.lowering_simulation.proofs.Makings.{IsAt, IsAtStripe, stripe, full}
+use Rattle.lowering_simulation.proofs.Proper.{IsEvent, HasEvents}
 use Rattle.erasure.specs.Erased.{IsAnywhere}
 use Rattle.erasure.proofs.ActDues.{steps_aside, same_phase_due}
 use Rattle.erasure.proofs.Asides.{aside_due, phase_beside}

@@ -14,10 +14,10 @@ use Rattle.flow_code.specs.declared.act.Act.{Act}
 use Rattle.flow_code.specs.declared.act.Act.TheVariants as act
 use Rattle.flow_code.specs.declared.code.Code.{Code}
 use Rattle.flow_code.specs.declared.thread.Phase.TheVariants as phase
-use Rattle.abstract_machine.specs.declared.event.Due.{Due}
-use Rattle.abstract_machine.specs.declared.event.Due.TheVariants as due
-use Rattle.abstract_machine.specs.declared.event.Action.{Action}
-use Rattle.abstract_machine.specs.declared.event.Action.TheVariants as action
+use Rattle.word_semantics.specs.declared.event.Due.{Due}
+use Rattle.word_semantics.specs.declared.event.Due.TheVariants as due
+use Rattle.word_semantics.specs.declared.event.Action.{Action}
+use Rattle.word_semantics.specs.declared.event.Action.TheVariants as action
 use Rattle.flow_code.specs.Threads.{Thread}
 use Rattle.flow_code.specs.Next.{act_at, due_of, action_of}
 use Rattle.flow_code.specs.Settle.{settled, IsRunnable}
@@ -25,18 +25,18 @@ use Rattle.flow_code.proofs.Asked.{own_action}
 use Rattle.flow_code.proofs.Settle.{action_is}
 use Rattle.weak_code.specs.Weakened.{retarget}
 use Rattle.weak_code.specs.Stripped.{plain_of, strip}
-use Rattle.c_core.specs.Runs.{printed_in}
+use Rattle.core_tree.specs.Runs.{printed_in}
 use Rattle.lower_sound.specs.Follows.{Prints}
-use Rattle.thread_flow.specs.Pieces.{piece_at, piece_next}
+use Rattle.thread_interpreter.specs.Pieces.{piece_at, piece_next}
 use Rattle.core_run.specs.Machine.{Told, machine, start_state}
 use Rattle.core_run.specs.Walks.{joined, walk_of, out_of}
-use Rattle.runs.specs.Labels.{Label, Go, Revoke, Stop, Close, label_thread}
-use Rattle.runs.specs.Steps.{State, stepped}
-use Rattle.source_runs.specs.RunEvents.{printed_at, event_of, transition_of, transition_at, transitions_on, transitions_from, is_of_stripe, without_stripes}
-use Rattle.source_runs.specs.SourceRuns.{own, ThreadTransition, printed_by, bytes_of}
-use Rattle.source_runs.specs.WalkEvents.{labels_of_walk}
-use Rattle.source_runs.proofs.Arrives.{printed_so}
-use Rattle.source_runs.proofs.Printing.{walk_prints}
+use Rattle.run_theory.specs.Labels.{Label, Go, Revoke, Stop, Close, label_thread}
+use Rattle.run_theory.specs.Steps.{State, stepped}
+use Rattle.lowering_simulation.specs.RunEvents.{printed_at, event_of, transition_of, transition_at, transitions_on, transitions_from, is_of_stripe, without_stripes}
+use Rattle.lowering_simulation.specs.SourceRuns.{own, ThreadTransition, printed_by, bytes_of}
+use Rattle.lowering_simulation.specs.WalkEvents.{labels_of_walk}
+use Rattle.lowering_simulation.proofs.Arrives.{printed_so}
+use Rattle.lowering_simulation.proofs.Printing.{walk_prints}
 use Rattle.erasure.specs.Erased.{erased_walk}
 use Rattle.erasure.proofs.ActDues.{steps_aside, not_weak}
 use Rattle.erasure.proofs.Bare.{instrs_of, bare_frame, bare, bare_act}

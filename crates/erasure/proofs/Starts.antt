@@ -12,21 +12,21 @@ use Rattle.flow_code.specs.Settle.{IsRunnable}
 use Rattle.flow_code.specs.Threads.{Thread, is_main_in}
 use Rattle.weak_code.specs.Stripped.{strip_function, strip}
 use Rattle.weak_code.proofs.Stripping.{plain_zero}
-use Rattle.c_core.specs.Core.{Program}
-use Rattle.c_core.specs.Meaning as meaning
+use Rattle.core_tree.specs.Core.{Program}
+use Rattle.core_tree.specs.Meaning as meaning
 use Rattle.lower_sound.specs.Follows.{Follows}
 use Rattle.core_run.specs.Histories.{run_of}
 use Rattle.core_run.specs.Machine.{Told, start_state}
-use Rattle.thread_flow.specs.Starts.{start_thread, main_of}
+use Rattle.thread_interpreter.specs.Starts.{start_thread, main_of}
 use Rattle.core_run.specs.Walks.{walk_of}
-use Rattle.runs.specs.Labels.{Label}
-use Rattle.runs.specs.Steps.{State}
+use Rattle.run_theory.specs.Labels.{Label}
+use Rattle.run_theory.specs.Steps.{State}
 use Rattle.sync_objects.specs.declared.entry.Entry.{Entry}
-use Rattle.source_runs.specs.SourceRuns.{IsSourceRun}
-use Rattle.source_runs.specs.WalkEvents.{labels_of_walk}
-use Rattle.source_runs.proofs.Proper.{HasEvents}
-use Rattle.source_runs.proofs.StartWorlds.{made_run}
-use Rattle.source_runs.proofs.WalkRuns.{walk_is_run}
+use Rattle.lowering_simulation.specs.SourceRuns.{IsSourceRun}
+use Rattle.lowering_simulation.specs.WalkEvents.{labels_of_walk}
+use Rattle.lowering_simulation.proofs.Proper.{HasEvents}
+use Rattle.lowering_simulation.proofs.StartWorlds.{made_run}
+use Rattle.lowering_simulation.proofs.WalkRuns.{walk_is_run}
 use Rattle.erasure.specs.Erased.{erased_events, erased_walk, IsAnywhere}
 use Rattle.erasure.proofs.Arrives.{making}
 use Rattle.erasure.proofs.Bare.{instrs_of, frame_with, bare, HasObjects}

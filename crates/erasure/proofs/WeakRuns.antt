@@ -13,8 +13,8 @@ use Rattle.flow_code.specs.Settle.{IsJump, IsSoundAct, IsRunnable}
 use Rattle.flow_code.specs.Threads.{instrs_in}
 use Rattle.facts.specs.declared.pair.Pair.{Pair}
 use Rattle.facts.specs.PointsTo.{Tables}
-use Rattle.weak_facts.specs.declared.grain.Grained.{Grained}
-use Rattle.weak_facts.specs.declared.range.Range.{Range}
+use Rattle.weak_lock_facts.specs.declared.grain.Grained.{Grained}
+use Rattle.weak_lock_facts.specs.declared.range.Range.{Range}
 use Rattle.weak_code.specs.declared.stretch.Stretch.{Stretch}
 use Rattle.weak_code.specs.Places.{before, place_from, place_of, act_or_mark, seat_of, enter}
 use Rattle.weak_code.specs.Stretches.{racy_accesses, stretches_of}

@@ -9,28 +9,28 @@ use Rattle.flow_code.specs.Valid.{is_valid}
 use Rattle.flow_code.proofs.Runnable.{valid_runnable}
 use Rattle.facts.specs.declared.pair.Pair.{Pair}
 use Rattle.facts.specs.PointsTo.{Tables}
-use Rattle.weak_facts.specs.declared.grain.Grained.{Grained}
-use Rattle.weak_facts.specs.declared.range.Range.{Range}
+use Rattle.weak_lock_facts.specs.declared.grain.Grained.{Grained}
+use Rattle.weak_lock_facts.specs.declared.range.Range.{Range}
 use Rattle.weak_code.specs.Stripped.{strip}
 use Rattle.weak_code.specs.Weakened.{weakened}
 use Rattle.weak_code.proofs.Stripping.{strip-weakened}
-use Rattle.c_core.specs.Core.{Program}
-use Rattle.c_core.specs.Meaning as meaning
+use Rattle.core_tree.specs.Core.{Program}
+use Rattle.core_tree.specs.Meaning as meaning
 use Rattle.call_targets.specs.Resolved.{resolved}
 use Rattle.call_targets.proofs.Sounds.{resolved_sound}
 use Rattle.flow_lower.specs.Lowered.{lowered}
-use Rattle.c_core.specs.Sound.{IsSound}
+use Rattle.core_tree.specs.Sound.{IsSound}
 use Rattle.lower_sound.specs.Follows.{Follows}
 use Rattle.lower_sound.proofs.Valid.{valid}
 use Rattle.core_run.specs.Histories.{run_of}
 use Rattle.core_run.specs.Machine.{Told, start_state}
-use Rattle.thread_flow.specs.Starts.{start_thread}
+use Rattle.thread_interpreter.specs.Starts.{start_thread}
 use Rattle.core_run.specs.Walks.{walk_of, out_of}
-use Rattle.runs.specs.Labels.{Label}
-use Rattle.runs.specs.Steps.{State}
-use Rattle.source_runs.specs.SourceRuns.{IsSourceRun, bytes_of}
-use Rattle.source_runs.proofs.Proper.{HasEvents, run_proper}
-use Rattle.source_runs.proofs.Starts.{follows_source}
+use Rattle.run_theory.specs.Labels.{Label}
+use Rattle.run_theory.specs.Steps.{State}
+use Rattle.lowering_simulation.specs.SourceRuns.{IsSourceRun, bytes_of}
+use Rattle.lowering_simulation.proofs.Proper.{HasEvents, run_proper}
+use Rattle.lowering_simulation.proofs.Starts.{follows_source}
 use Rattle.erasure.specs.Erased.{erased_events, erased_walk, IsAnywhere}
 use Rattle.erasure.proofs.Bare.{HasObjects}
 use Rattle.erasure.proofs.Fronts.{weakened_objects}

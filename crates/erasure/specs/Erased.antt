@@ -3,11 +3,11 @@ use Rattle.std.specs.Prelude.{List}
 use Rattle.sync_objects.specs.Setup.{SetupView}
 use Rattle.sync_objects.specs.declared.entry.Entry.{Entry}
 use Rattle.flow_code.specs.declared.code.Code.{Code}
-use Rattle.c_core.specs.Runs.{Run}
-use Rattle.runs.specs.Labels.{Label}
-use Rattle.source_runs.specs.RunEvents.{events_of_run, without_stripes}
-use Rattle.source_runs.specs.SourceRuns.{ThreadTransition}
-use Rattle.source_runs.specs.WalkEvents.{events_of_walk}
+use Rattle.core_tree.specs.Runs.{Run}
+use Rattle.run_theory.specs.Labels.{Label}
+use Rattle.lowering_simulation.specs.RunEvents.{events_of_run, without_stripes}
+use Rattle.lowering_simulation.specs.SourceRuns.{ThreadTransition}
+use Rattle.lowering_simulation.specs.WalkEvents.{events_of_walk}
 
 -- the events of a run from the start, without those of stripes
 abbrev pub erased_events : Code → SetupView → List Label → List ThreadTransition

@@ -1,6 +1,6 @@
 //! Weak locks change nothing of what a source does: each run of a code with weak locks is a run of the source, once the
 //! operations on stripes are left out of it. This crate joins `weak_code`, which says what such a code is, and
-//! `source_runs`, which says what a run of a source is. It has no program, and promises its laws.
+//! `lowering_simulation`, which says what a run of a source is. It has no program, and promises its laws.
 #![tactic(auto)]
 
 mod laws;

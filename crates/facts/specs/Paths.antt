@@ -9,7 +9,7 @@ use Rattle.flow_code.specs.declared.act.Instr.{Instr}
 use Rattle.flow_code.specs.declared.code.Function.{Function}
 use Rattle.flow_code.specs.declared.work.Work.TheVariants as work
 use Rattle.flow_code.specs.Next.{act_in}
-use Rattle.abstract_machine.specs.Pointers.{directed}
+use Rattle.word_semantics.specs.Pointers.{directed}
 use Rattle.facts.specs.Blocks.{begins_block, assigns, constant_at}
 use Rattle.facts.specs.declared.locks.LockPath.{LockPath}
 use Rattle.facts.specs.declared.locks.LockPath.TheVariants.{Cell, Formal}

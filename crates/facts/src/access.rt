@@ -6,7 +6,7 @@ ghost use Rattle.facts.specs.Pairs as spec;
 
 use crate::pair::AccessAt;
 use crate::points::PointsTo;
-use abstract_machine::LibraryCall;
+use word_semantics::LibraryCall;
 use flow_code::{Act, Code};
 use rr_base::Place;
 

@@ -1,6 +1,6 @@
 //! What registers are known to point to, carried on from instruction to instruction of a block.
 ghost use Rattle.std.specs.Prelude.{◌≡◌, ℕ, ℤ, List as Items, Option, Bool, Some, None, if◌then◌else◌, IfOk, OnOk};
-ghost use Rattle.abstract_machine.specs.Pointers.{directed as directed_of};
+ghost use Rattle.word_semantics.specs.Pointers.{directed as directed_of};
 ghost use Rattle.facts.specs.Blocks.{amount_by, assigns as assigns_of};
 ghost use Rattle.facts.specs.Carried.{known_by, known_after, known_in, formal_in};
 ghost use Rattle.facts.specs.Paths.{Root, known_of, known_on, known_on_by, naming_of as naming_by};

@@ -13,14 +13,14 @@ use Rattle.flow_code.specs.declared.act.Act.TheVariants as act
 use Rattle.flow_code.specs.declared.act.Instr.{Instr}
 use Rattle.flow_code.specs.declared.code.Code.{Code}
 use Rattle.flow_code.specs.declared.thread.Stripe.{Stripe}
-use Rattle.abstract_machine.specs.declared.event.Due.{Due}
-use Rattle.abstract_machine.specs.declared.event.Due.TheVariants as due
-use Rattle.abstract_machine.specs.declared.event.Action.TheVariants as action
+use Rattle.word_semantics.specs.declared.event.Due.{Due}
+use Rattle.word_semantics.specs.declared.event.Due.TheVariants as due
+use Rattle.word_semantics.specs.declared.event.Action.TheVariants as action
 use Rattle.flow_code.specs.Threads.{Thread, instrs_in}
 use Rattle.flow_code.specs.Next.{act_at, phase_due, due_of, action_of, action_at}
-use Rattle.abstract_machine.specs.Limits.{is_free_of_limit}
+use Rattle.word_semantics.specs.Limits.{is_free_of_limit}
 use Rattle.flow_code.specs.Settle.{IsSoundAct, IsRunnable}
-use Rattle.abstract_machine.proofs.Calls.{is_from_outside}
+use Rattle.word_semantics.proofs.Calls.{is_from_outside}
 use Rattle.flow_code.proofs.Dues.{operate_by_code}
 use Rattle.flow_code.proofs.Goings.{IsSoundCallAt, thread_goes}
 use Rattle.flow_code.proofs.Quietly.{sound_here}

@@ -15,20 +15,20 @@ use Rattle.flow_code.specs.declared.thread.Phase.{Phase}
 use Rattle.flow_code.specs.declared.thread.Phase.TheVariants as phase
 use Rattle.flow_code.specs.declared.region.Region.{Region}
 use Rattle.flow_code.specs.declared.thread.Stripe.{Stripe}
-use Rattle.abstract_machine.specs.declared.event.Due.{Due}
-use Rattle.abstract_machine.specs.declared.event.Due.TheVariants as due
-use Rattle.abstract_machine.specs.declared.event.Action.{Action}
-use Rattle.abstract_machine.specs.declared.event.Action.TheVariants as action
-use Rattle.abstract_machine.specs.declared.event.Onward.{Onward}
-use Rattle.abstract_machine.specs.declared.event.Onward.TheVariants as onward
+use Rattle.word_semantics.specs.declared.event.Due.{Due}
+use Rattle.word_semantics.specs.declared.event.Due.TheVariants as due
+use Rattle.word_semantics.specs.declared.event.Action.{Action}
+use Rattle.word_semantics.specs.declared.event.Action.TheVariants as action
+use Rattle.word_semantics.specs.declared.event.Onward.{Onward}
+use Rattle.word_semantics.specs.declared.event.Onward.TheVariants as onward
 use Rattle.flow_code.specs.Works.{work_of}
-use Rattle.abstract_machine.specs.Library.{piece_of, library_onward}
+use Rattle.word_semantics.specs.Library.{piece_of, library_onward}
 use Rattle.flow_code.specs.Threads.{Frame, Thread, is_main}
 use Rattle.flow_code.specs.Next.{value_of, act_at, pointers_of, caller, phase_due, due_of, computed, resumed, returned, end_onward, back_in, on_unless, act_after, begun_after, phase_after, counted, repaid, one_more, after_due, has_ended, action_of, action_at, stepped}
-use Rattle.abstract_machine.specs.Registers.{words_of}
+use Rattle.word_semantics.specs.Registers.{words_of}
 use Rattle.flow_code.specs.Holding.{region_of, lacked, taken, open_place, to_give, gives_at, parting, left_after}
 use Rattle.flow_code.specs.Settle.{settled}
-use Rattle.abstract_machine.proofs.Calls.{is_retake}
+use Rattle.word_semantics.proofs.Calls.{is_retake}
 use Rattle.flow_code.proofs.Dues.{quiet_by_code, nothing_by_code, nothing_due, IsAccess, access_by_code}
 use Rattle.flow_code.proofs.Goings.{Runs, ThreadGoes, thread_goes}
 use Rattle.flow_code.proofs.Settle.{settled_keeps, action_is}

@@ -12,11 +12,11 @@ use Rattle.rr_base.specs.declared.trap.Trap.{Trap}
 use Rattle.rr_base.specs.declared.trap.Trap.TheVariants as trap
 use Rattle.flow_code.specs.declared.code.Code.{Code}
 use Rattle.flow_code.specs.declared.thread.Stripe.{Stripe}
-use Rattle.abstract_machine.specs.declared.event.Due.{Due}
-use Rattle.abstract_machine.specs.declared.event.Due.TheVariants as due
+use Rattle.word_semantics.specs.declared.event.Due.{Due}
+use Rattle.word_semantics.specs.declared.event.Due.TheVariants as due
 use Rattle.flow_code.specs.Threads.{Thread}
 use Rattle.flow_code.specs.Next.{limited, first_owed, retake, owing, listed, phase_due, due_of}
-use Rattle.abstract_machine.specs.Limits.{most_entries, is_free_of_limit}
+use Rattle.word_semantics.specs.Limits.{most_entries, is_free_of_limit}
 
 -- what needs a count below the limit
 abbrev pub NeedsCount : Due → Type 0

@@ -9,14 +9,14 @@ use Rattle.sync_objects.specs.declared.operation.Op.{Op}
 use Rattle.sync_objects.specs.declared.operation.Op.TheVariants as op
 use Rattle.flow_code.specs.declared.code.Code.{Code}
 use Rattle.flow_code.specs.declared.thread.Stripe.{Stripe}
-use Rattle.abstract_machine.specs.declared.event.Due.{Due}
-use Rattle.abstract_machine.specs.declared.event.Due.TheVariants as due
-use Rattle.abstract_machine.specs.declared.event.Action.{Action}
-use Rattle.abstract_machine.specs.declared.event.Action.TheVariants as action
+use Rattle.word_semantics.specs.declared.event.Due.{Due}
+use Rattle.word_semantics.specs.declared.event.Due.TheVariants as due
+use Rattle.word_semantics.specs.declared.event.Action.{Action}
+use Rattle.word_semantics.specs.declared.event.Action.TheVariants as action
 use Rattle.flow_code.specs.Threads.{Thread}
 use Rattle.flow_code.specs.Next.{phase_due, due_of, action_of, action_at, phase_after, counted, after_due, gave_up, stopped, slot_closed, has_ended, stepped}
 use Rattle.flow_code.specs.Settle.{settled}
-use Rattle.abstract_machine.specs.Limits.{is_free_of_limit}
+use Rattle.word_semantics.specs.Limits.{is_free_of_limit}
 use Rattle.flow_code.proofs.Dues.{operate_by_code, leave_due}
 use Rattle.flow_code.proofs.Goings.{ThreadOperates, runs, slot_ends, thread_ends, thread_goes}
 use Rattle.flow_code.proofs.Counts.{KeepsRest, IsAccessAction, phase_keeps, stepped_is, operate_after, ended_due, ended_action}

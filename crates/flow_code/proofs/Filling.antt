@@ -1,6 +1,6 @@
 -- Registers are filled one after another.
 use Rattle.std.proofs.Common.{◌≡◌, ℕ, zero, suc, ◌+◌, List, [], ◌∷◌, ◌++◌, refl, ap, add-one}
-use Rattle.abstract_machine.specs.Library.{argument}
+use Rattle.word_semantics.specs.Library.{argument}
 use Rattle.flow_code.specs.Threads.{with_arguments}
 
 filled : (n : ℕ) (words : List ℕ) → with_arguments (suc n) words ≡ with_arguments n words ++ argument words n ∷ []

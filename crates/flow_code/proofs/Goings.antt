@@ -12,32 +12,32 @@ use Rattle.rr_base.specs.declared.trap.Trap.{Trap}
 use Rattle.rr_base.specs.declared.trap.Trap.TheVariants as trap
 use Rattle.flow_code.specs.declared.act.Act.{Act}
 use Rattle.flow_code.specs.declared.act.Act.TheVariants as act
-use Rattle.abstract_machine.specs.declared.library_call.LibraryCall.{LibraryCall}
-use Rattle.abstract_machine.specs.declared.library_call.LibraryCall.TheVariants as call
+use Rattle.word_semantics.specs.declared.library_call.LibraryCall.{LibraryCall}
+use Rattle.word_semantics.specs.declared.library_call.LibraryCall.TheVariants as call
 use Rattle.flow_code.specs.declared.region.Region.{Region}
 use Rattle.flow_code.specs.declared.thread.Stripe.{Stripe}
 use Rattle.flow_code.specs.Holding.{region_of, lacked, take_or_quiet, give_or_quiet, taken, open_place, to_give, gives_at, parting, owes, parting_due, held, keeping, left_after}
 use Rattle.flow_code.specs.declared.code.Code.{Code}
 use Rattle.flow_code.specs.declared.thread.Phase.{Phase}
 use Rattle.flow_code.specs.declared.thread.Phase.TheVariants as phase
-use Rattle.abstract_machine.specs.declared.event.Due.{Due}
-use Rattle.abstract_machine.specs.declared.event.Due.TheVariants as due
-use Rattle.abstract_machine.specs.declared.event.Onward.{Onward}
-use Rattle.abstract_machine.specs.declared.event.Onward.TheVariants as onward
-use Rattle.abstract_machine.specs.Values.{number, word}
-use Rattle.abstract_machine.specs.Pointers.{resolved}
+use Rattle.word_semantics.specs.declared.event.Due.{Due}
+use Rattle.word_semantics.specs.declared.event.Due.TheVariants as due
+use Rattle.word_semantics.specs.declared.event.Onward.{Onward}
+use Rattle.word_semantics.specs.declared.event.Onward.TheVariants as onward
+use Rattle.word_semantics.specs.Values.{number, word}
+use Rattle.word_semantics.specs.Pointers.{resolved}
 use Rattle.flow_code.specs.Works.{is_pointer, work_of}
-use Rattle.abstract_machine.specs.Registers.{register}
-use Rattle.abstract_machine.specs.Library.{Caller, piece_of, library_due, library_onward, most_printed, count_in}
+use Rattle.word_semantics.specs.Registers.{register}
+use Rattle.word_semantics.specs.Library.{Caller, piece_of, library_due, library_onward, most_printed, count_in}
 use Rattle.flow_code.specs.Threads.{Frame, Thread, OpenRegion, arena_end, is_main, objects_in, fitted}
-use Rattle.abstract_machine.specs.Cells.{size_of}
+use Rattle.word_semantics.specs.Cells.{size_of}
 use Rattle.flow_code.specs.Next.{past, jumped, with_register, value_of, act_at, pointers_of, quiet_unless, load_due, store_due, malloc_due, mark_if, enter_due, end_due, return_due, caller, act_due, begun_due, phase_due, in_frame, computed, entered, one_made, end_onward, returned, back_in, resumed, branch_to, allocated, on_unless, act_after, begun_after, phase_after, counted, has_ended}
-use Rattle.abstract_machine.specs.Limits.{most_frames}
+use Rattle.word_semantics.specs.Limits.{most_frames}
 use Rattle.flow_code.specs.Ranges.{most_made}
-use Rattle.abstract_machine.specs.Registers.{words_of}
-use Rattle.abstract_machine.specs.Cells.{access_kind, is_size, cells_in}
-use Rattle.abstract_machine.specs.Library.{IsSoundCall}
-use Rattle.abstract_machine.proofs.Calls.{IsAsked, GoesOn, CallOperates, goes, ends_slot, leaves_all, CallGoes, call_goes}
+use Rattle.word_semantics.specs.Registers.{words_of}
+use Rattle.word_semantics.specs.Cells.{access_kind, is_size, cells_in}
+use Rattle.word_semantics.specs.Library.{IsSoundCall}
+use Rattle.word_semantics.proofs.Calls.{IsAsked, GoesOn, CallOperates, goes, ends_slot, leaves_all, CallGoes, call_goes}
 use Rattle.flow_code.proofs.Shapes.{IsShaped, StandsIn, stands_in, each_more, framed, printed_more, in_phase, goes_shaped, entered_shaped, back_shaped}
 
 -- what holds of both parts of a choice holds of it

@@ -7,8 +7,8 @@ use Rattle.std.proofs.lemmas.Option.{slice_get_within}
 use Rattle.rr_base.specs.Words.{site_of, base_of, length_of, offset_of, pack}
 use Rattle.rr_base.proofs.WordLaws.{base_of-pack, length_of-pack, offset_of-pack}
 use Rattle.rr_base.specs.declared.layout.Site.{Site}
-use Rattle.abstract_machine.specs.Pointers.{site_at, base_at}
-use Rattle.abstract_machine.specs.Cells.{size_in, size_of}
+use Rattle.word_semantics.specs.Pointers.{site_at, base_at}
+use Rattle.word_semantics.specs.Cells.{size_in, size_of}
 use Rattle.flow_code.specs.declared.code.Code.{Code}
 use Rattle.flow_code.specs.Addresses.{whole_object, is_given, is_address, begin_with, lies_apart, all_apart, object_fits, objects_fit, words_fit, globals_fit}
 use Rattle.flow_code.specs.Kinds.{is_site}

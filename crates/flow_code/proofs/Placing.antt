@@ -3,9 +3,9 @@ use Rattle.std.proofs.Common.{◌≡◌, ℕ, ◌+◌, ◌%◌, ◌^◌, ◌<◌
 use Rattle.std.proofs.Math.Seq.{drop-cons}
 use Rattle.rr_base.specs.declared.layout.Site.{Site}
 use Rattle.flow_code.specs.declared.act.Instr.{Instr}
-use Rattle.abstract_machine.specs.Pointers.{pointer_at}
+use Rattle.word_semantics.specs.Pointers.{pointer_at}
 use Rattle.flow_code.specs.Threads.{Object, object, object_of, and_objects, objects_of, placed}
-use Rattle.abstract_machine.specs.Cells.{size_of}
+use Rattle.word_semantics.specs.Cells.{size_of}
 
 -- what stands at a place, and what comes after it
 objects_from : (is : List Instr) (k : ℕ) (i : Instr) → i ≡ get_or is k i → k < length is → objects_of (drop k is) ≡ and_objects (object_of i.act) (objects_of (drop (k + 1) is))

@@ -8,8 +8,8 @@ use Rattle.rr_base.specs.declared.trap.Trap.TheVariants as trap
 use Rattle.rr_base.proofs.Lists.{slice_get_outside}
 use Rattle.flow_code.specs.declared.act.Act.{Act}
 use Rattle.flow_code.specs.declared.act.Act.TheVariants as act
-use Rattle.abstract_machine.specs.declared.library_call.LibraryCall.{LibraryCall}
-use Rattle.abstract_machine.specs.declared.library_call.LibraryCall.TheVariants as call
+use Rattle.word_semantics.specs.declared.library_call.LibraryCall.{LibraryCall}
+use Rattle.word_semantics.specs.declared.library_call.LibraryCall.TheVariants as call
 use Rattle.flow_code.specs.declared.region.Region.{Region}
 use Rattle.flow_code.specs.declared.thread.Stripe.{Stripe}
 use Rattle.flow_code.specs.Holding.{region_of, lacked, take_or_quiet, give_or_quiet, taken, open_place, to_give, gives_at, parting, owes, parting_due, held, keeping, left_after}
@@ -19,20 +19,20 @@ use Rattle.flow_code.specs.declared.code.Code.{Code}
 use Rattle.flow_code.specs.declared.code.Function.{Function}
 use Rattle.flow_code.specs.declared.thread.Phase.{Phase}
 use Rattle.flow_code.specs.declared.thread.Phase.TheVariants as phase
-use Rattle.abstract_machine.specs.declared.event.Due.{Due}
-use Rattle.abstract_machine.specs.declared.event.Due.TheVariants as due
-use Rattle.abstract_machine.specs.declared.event.Onward.TheVariants as onward
-use Rattle.abstract_machine.specs.Pointers.{resolved}
+use Rattle.word_semantics.specs.declared.event.Due.{Due}
+use Rattle.word_semantics.specs.declared.event.Due.TheVariants as due
+use Rattle.word_semantics.specs.declared.event.Onward.TheVariants as onward
+use Rattle.word_semantics.specs.Pointers.{resolved}
 use Rattle.flow_code.specs.Works.{is_pointer, work_of}
-use Rattle.abstract_machine.specs.Registers.{register}
-use Rattle.abstract_machine.specs.Library.{piece_of, library_due}
+use Rattle.word_semantics.specs.Registers.{register}
+use Rattle.word_semantics.specs.Library.{piece_of, library_due}
 use Rattle.flow_code.specs.Threads.{Frame, Thread, arena_end, is_main, objects_in, fitted, instr_in, instrs_in}
 use Rattle.flow_code.specs.Next.{given, result_of, value_of, act_in, act_at, pointers_of, quiet_unless, load_due, store_due, mark_if, enter_due, end_due, return_due, caller, act_due, begun_due, phase_due, due_of, computed, resumed, jumped, returned, end_onward, back_in, on_unless, act_after, phase_after, after_due, stepped}
-use Rattle.abstract_machine.specs.Limits.{most_frames}
-use Rattle.abstract_machine.specs.Registers.{words_of}
-use Rattle.abstract_machine.specs.Cells.{access_kind}
+use Rattle.word_semantics.specs.Limits.{most_frames}
+use Rattle.word_semantics.specs.Registers.{words_of}
+use Rattle.word_semantics.specs.Cells.{access_kind}
 use Rattle.flow_code.specs.Settle.{IsJump, IsSoundAct, IsRunnable}
-use Rattle.abstract_machine.proofs.Calls.{IsWithoutEvents, CallGoes, call_goes}
+use Rattle.word_semantics.proofs.Calls.{IsWithoutEvents, CallGoes, call_goes}
 use Rattle.flow_code.proofs.Dues.{quiet_by_code}
 use Rattle.flow_code.proofs.Shapes.{StandsIn, stands_in}
 

@@ -14,17 +14,17 @@ use Rattle.flow_code.specs.declared.code.Code.{Code}
 use Rattle.flow_code.specs.declared.thread.Phase.{Phase}
 use Rattle.flow_code.specs.declared.thread.Phase.TheVariants as phase
 use Rattle.flow_code.specs.declared.thread.Stripe.{Stripe}
-use Rattle.abstract_machine.specs.declared.event.Due.{Due}
-use Rattle.abstract_machine.specs.declared.event.Due.TheVariants as due
-use Rattle.abstract_machine.specs.declared.event.Action.TheVariants as action
-use Rattle.abstract_machine.specs.declared.library_call.LibraryCall.{LibraryCall}
-use Rattle.abstract_machine.specs.declared.library_call.LibraryCall.TheVariants as call
-use Rattle.abstract_machine.specs.Library.{library_due}
+use Rattle.word_semantics.specs.declared.event.Due.{Due}
+use Rattle.word_semantics.specs.declared.event.Due.TheVariants as due
+use Rattle.word_semantics.specs.declared.event.Action.TheVariants as action
+use Rattle.word_semantics.specs.declared.library_call.LibraryCall.{LibraryCall}
+use Rattle.word_semantics.specs.declared.library_call.LibraryCall.TheVariants as call
+use Rattle.word_semantics.specs.Library.{library_due}
 use Rattle.flow_code.specs.Holding.{region_of, lacked, take_or_quiet, give_or_quiet, to_give, parting, owes, parting_due}
 use Rattle.flow_code.specs.Threads.{Thread, arena_end}
 use Rattle.flow_code.specs.Next.{act_at, act_due, begun_due, phase_due, due_of, caller, lost, phase_after, counted, repaid, one_more, after_due, gave_up, stopped, slot_closed, has_ended, action_of, action_at, stepped}
-use Rattle.abstract_machine.specs.Limits.{most_entries, most_revokes, is_free_of_limit}
-use Rattle.abstract_machine.specs.Registers.{words_of}
+use Rattle.word_semantics.specs.Limits.{most_entries, most_revokes, is_free_of_limit}
+use Rattle.word_semantics.specs.Registers.{words_of}
 use Rattle.flow_code.specs.Settle.{settled, IsRunnable}
 use Rattle.flow_code.specs.Ranges.{IsCounted, within, leaving, over, InRange}
 use Rattle.flow_code.proofs.Dues.{quiet_by_code, IsAccess, access_by_code, operate_by_code, operate_room, leave_due}

@@ -6,14 +6,14 @@ use Rattle.std.proofs.lemmas.Option.{slice_get_within}
 use Rattle.flow_code.specs.declared.act.Act.{Act}
 use Rattle.flow_code.specs.declared.act.Act.TheVariants as act
 use Rattle.flow_code.specs.declared.act.Instr.{Instr}
-use Rattle.abstract_machine.specs.declared.library_call.LibraryCall.{LibraryCall}
-use Rattle.abstract_machine.specs.declared.library_call.LibraryCall.TheVariants as call
+use Rattle.word_semantics.specs.declared.library_call.LibraryCall.{LibraryCall}
+use Rattle.word_semantics.specs.declared.library_call.LibraryCall.TheVariants as call
 use Rattle.flow_code.specs.declared.code.Code.{Code}
 use Rattle.flow_code.specs.declared.code.Function.{Function}
 use Rattle.flow_code.specs.Threads.{instrs_in}
 use Rattle.flow_code.specs.Next.{act_in}
 use Rattle.flow_code.specs.Settle.{IsJump, IsSoundAct, IsRunnable}
-use Rattle.abstract_machine.specs.Library.{IsSoundCall}
+use Rattle.word_semantics.specs.Library.{IsSoundCall}
 use Rattle.flow_code.specs.Kinds.{may_start, starts_fit, act_fits}
 use Rattle.flow_code.specs.Order.{is_mark, jump_fits, jumps_fit_at, jumps_fit, ends_in_itself}
 use Rattle.flow_code.specs.Valid.{is_valid, function_fits}

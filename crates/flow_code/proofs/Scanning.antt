@@ -6,7 +6,7 @@ use Rattle.rr_base.specs.Words.{site_of, length_of}
 use Rattle.flow_code.specs.declared.code.Code.{Code}
 use Rattle.flow_code.specs.declared.code.LockInfo.{LockInfo}
 use Rattle.flow_code.specs.Stripes.{any_from, guards, lock_guards, stripe_at, class_in}
-use Rattle.abstract_machine.specs.Pointers.{site_at}
+use Rattle.word_semantics.specs.Pointers.{site_at}
 
 same_bool : (a b : Bool) → (a ≡ true → b ≡ true) → (b ≡ true → a ≡ true) → a ≡ b
 same_bool true b f g = sym (f refl)

@@ -4,10 +4,10 @@ use Rattle.std.specs.Prelude.{slice_get, sum_by, fold}
 use Rattle.std.proofs.lemmas.Bool.{true≢false}
 use Rattle.sync_objects.specs.Setup.{SetupView}
 use Rattle.flow_code.specs.declared.code.Code.{Code}
-use Rattle.abstract_machine.specs.declared.event.Due.{Due}
+use Rattle.word_semantics.specs.declared.event.Due.{Due}
 use Rattle.flow_code.specs.declared.thread.Stripe.{Stripe}
-use Rattle.abstract_machine.specs.declared.event.Due.TheVariants as due
-use Rattle.abstract_machine.specs.declared.event.Action.TheVariants as action
+use Rattle.word_semantics.specs.declared.event.Due.TheVariants as due
+use Rattle.word_semantics.specs.declared.event.Action.TheVariants as action
 use Rattle.flow_code.specs.Threads.{Frame, Thread, instrs_in}
 use Rattle.flow_code.specs.Next.{due_of, action_of, action_at, stepped}
 use Rattle.flow_code.specs.Settle.{is_quiet, left_in, weight, settle_on, settle, settled, IsRunnable}

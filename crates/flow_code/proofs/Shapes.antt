@@ -10,15 +10,15 @@ use Rattle.flow_code.specs.declared.act.Instr.{Instr}
 use Rattle.flow_code.specs.declared.code.Code.{Code}
 use Rattle.flow_code.specs.declared.code.Function.{Function}
 use Rattle.flow_code.specs.declared.thread.Phase.{Phase}
-use Rattle.abstract_machine.specs.declared.event.Onward.{Onward}
-use Rattle.abstract_machine.specs.declared.event.Onward.TheVariants as onward
-use Rattle.abstract_machine.specs.Library.{most_printed}
+use Rattle.word_semantics.specs.declared.event.Onward.{Onward}
+use Rattle.word_semantics.specs.declared.event.Onward.TheVariants as onward
+use Rattle.word_semantics.specs.Library.{most_printed}
 use Rattle.flow_code.specs.Threads.{Frame, Thread, Object, object, arena_end, objects_in, fitted, instr_in, instr_at, instrs_in}
-use Rattle.abstract_machine.specs.Cells.{size_of}
+use Rattle.word_semantics.specs.Cells.{size_of}
 use Rattle.flow_code.specs.Next.{past, given, act_in, act_at, in_frame, or_else, entered, one_made, resumed, back_in}
-use Rattle.abstract_machine.specs.Limits.{most_frames}
+use Rattle.word_semantics.specs.Limits.{most_frames}
 use Rattle.flow_code.specs.Ranges.{most_made}
-use Rattle.abstract_machine.proofs.Calls.{GoesOn}
+use Rattle.word_semantics.proofs.Calls.{GoesOn}
 
 -- the frame stands at an instruction of its function
 abbrev pub StandsIn : Code → Frame → Type 0

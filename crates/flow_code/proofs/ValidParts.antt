@@ -10,7 +10,7 @@ use Rattle.flow_code.specs.Kinds.{act_fits}
 use Rattle.flow_code.specs.Order.{order_fits}
 use Rattle.flow_code.specs.Addresses.{globals_fit}
 use Rattle.flow_code.specs.Valid.{is_valid, registers_fit, acts_fit, loops_fit, regions_fit, function_fits, functions_fit, all_locks_fit, has_one_main, most_locks, is_within_limits}
-use Rattle.abstract_machine.specs.Layouts.{layout_fits, sites_fit}
+use Rattle.word_semantics.specs.Layouts.{layout_fits, sites_fit}
 
 -- ---- tests
 

@@ -9,7 +9,7 @@ use Rattle.flow_code.specs.declared.act.Act.{Act}
 use Rattle.flow_code.specs.declared.act.Act.TheVariants as act
 use Rattle.flow_code.specs.declared.code.Code.{Code}
 use Rattle.flow_code.specs.declared.work.Work.TheVariants as work
-use Rattle.abstract_machine.specs.Pointers.{site_at, base_at, same_kind}
+use Rattle.word_semantics.specs.Pointers.{site_at, base_at, same_kind}
 
 -- the address that an instruction computes
 abbrev pub address_in : Act → Option ℕ

@@ -1,7 +1,7 @@
 -- The constants of a code.
 use Rattle.std.specs.Prelude.{Bool, true, List}
 use Rattle.std.specs.List.{list_all}
-use Rattle.abstract_machine.specs.Values.{fits}
+use Rattle.word_semantics.specs.Values.{fits}
 use Rattle.flow_code.specs.declared.act.Act.{Act}
 use Rattle.flow_code.specs.declared.act.Act.TheVariants as act
 use Rattle.flow_code.specs.declared.act.Instr.{Instr}

@@ -8,14 +8,14 @@ use Rattle.sync_objects.specs.declared.operation.Op.TheVariants as op
 use Rattle.flow_code.specs.declared.act.Act.{Act}
 use Rattle.flow_code.specs.declared.act.Act.TheVariants as act
 use Rattle.flow_code.specs.declared.act.Instr.{Instr}
-use Rattle.abstract_machine.specs.declared.library_call.LibraryCall.{LibraryCall}
-use Rattle.abstract_machine.specs.declared.library_call.LibraryCall.TheVariants as call
+use Rattle.word_semantics.specs.declared.library_call.LibraryCall.{LibraryCall}
+use Rattle.word_semantics.specs.declared.library_call.LibraryCall.TheVariants as call
 use Rattle.flow_code.specs.declared.code.Code.{Code}
 use Rattle.flow_code.specs.declared.code.Function.{Function}
 use Rattle.flow_code.specs.declared.region.Region.{Region}
 use Rattle.flow_code.specs.declared.thread.Stripe.{Stripe}
-use Rattle.abstract_machine.specs.declared.event.Due.{Due}
-use Rattle.abstract_machine.specs.declared.event.Due.TheVariants as due
+use Rattle.word_semantics.specs.declared.event.Due.{Due}
+use Rattle.word_semantics.specs.declared.event.Due.TheVariants as due
 use Rattle.flow_code.specs.Stripes.{stripe_of, wants_number, first_lock, end_lock, first_from, stripes_from}
 use Rattle.flow_code.specs.Threads.{Frame, Thread, OpenRegion, instr_in}
 

@@ -13,27 +13,27 @@ use Rattle.rr_base.specs.declared.layout.CellKind.TheVariants as kind
 use Rattle.flow_code.specs.declared.act.Act.{Act}
 use Rattle.flow_code.specs.declared.act.Act.TheVariants as act
 use Rattle.flow_code.specs.declared.act.Instr.{Instr}
-use Rattle.abstract_machine.specs.declared.library_call.LibraryCall.{LibraryCall}
+use Rattle.word_semantics.specs.declared.library_call.LibraryCall.{LibraryCall}
 use Rattle.flow_code.specs.declared.code.Code.{Code}
 use Rattle.flow_code.specs.declared.code.Function.{Function}
 use Rattle.flow_code.specs.declared.thread.Phase.{Phase}
 use Rattle.flow_code.specs.declared.thread.Phase.TheVariants as phase
 use Rattle.flow_code.specs.declared.thread.Stripe.{Stripe}
-use Rattle.abstract_machine.specs.declared.event.Due.{Due}
-use Rattle.abstract_machine.specs.declared.event.Due.TheVariants as due
-use Rattle.abstract_machine.specs.declared.event.Action.{Action}
-use Rattle.abstract_machine.specs.declared.event.Action.TheVariants as action
-use Rattle.abstract_machine.specs.declared.event.Onward.{Onward}
-use Rattle.abstract_machine.specs.declared.event.Onward.TheVariants as onward
-use Rattle.abstract_machine.specs.Values.{number, word}
-use Rattle.abstract_machine.specs.Pointers.{resolved, pointer_at}
+use Rattle.word_semantics.specs.declared.event.Due.{Due}
+use Rattle.word_semantics.specs.declared.event.Due.TheVariants as due
+use Rattle.word_semantics.specs.declared.event.Action.{Action}
+use Rattle.word_semantics.specs.declared.event.Action.TheVariants as action
+use Rattle.word_semantics.specs.declared.event.Onward.{Onward}
+use Rattle.word_semantics.specs.declared.event.Onward.TheVariants as onward
+use Rattle.word_semantics.specs.Values.{number, word}
+use Rattle.word_semantics.specs.Pointers.{resolved, pointer_at}
 use Rattle.flow_code.specs.Works.{is_pointer, work_of}
-use Rattle.abstract_machine.specs.Registers.{register, words_of}
-use Rattle.abstract_machine.specs.Library.{Caller, count_in, library_due, library_onward, piece_of}
+use Rattle.word_semantics.specs.Registers.{register, words_of}
+use Rattle.word_semantics.specs.Library.{Caller, count_in, library_due, library_onward, piece_of}
 use Rattle.flow_code.specs.Holding.{region_of, lacked, take_due, taken, to_give, give_due, gave, parting, parting_due, left_after}
 use Rattle.flow_code.specs.Threads.{Frame, Thread, arena_end, instr_at, line_of, is_main, objects_in, fitted, first_frame}
-use Rattle.abstract_machine.specs.Cells.{argument_cell, result_cell, size_of, access_kind, cells_in, is_size}
-use Rattle.abstract_machine.specs.Limits.{is_free_of_limit, most_entries, most_frames}
+use Rattle.word_semantics.specs.Cells.{argument_cell, result_cell, size_of, access_kind, cells_in, is_size}
+use Rattle.word_semantics.specs.Limits.{is_free_of_limit, most_entries, most_frames}
 
 -- ---- frames
 

@@ -4,11 +4,11 @@ use Rattle.sync_objects.specs.Setup.{SetupView}
 use Rattle.sync_objects.specs.declared.object.ObjId.TheVariants as object
 use Rattle.sync_objects.specs.declared.operation.Op.TheVariants as op
 use Rattle.flow_code.specs.declared.code.Code.{Code}
-use Rattle.abstract_machine.specs.declared.event.Due.TheVariants as due
-use Rattle.abstract_machine.specs.Library.{most_printed}
+use Rattle.word_semantics.specs.declared.event.Due.TheVariants as due
+use Rattle.word_semantics.specs.Library.{most_printed}
 use Rattle.flow_code.specs.Threads.{Frame, Thread, arena_end, instrs_in}
 use Rattle.flow_code.specs.Next.{due_of, has_ended}
-use Rattle.abstract_machine.specs.Limits.{most_frames, most_entries, most_revokes}
+use Rattle.word_semantics.specs.Limits.{most_frames, most_entries, most_revokes}
 
 -- a thread makes no more events than the limit says, but for those with which it ends: it has one more after it where it
 -- is about to leave the live threads, and at most two more once it has ended. A thread that didn't start with the run may

@@ -4,13 +4,13 @@ use Rattle.sync_objects.specs.Setup.{SetupView}
 use Rattle.flow_code.specs.declared.act.Act.{Act}
 use Rattle.flow_code.specs.declared.act.Act.TheVariants as act
 use Rattle.flow_code.specs.declared.act.Instr.{Instr}
-use Rattle.abstract_machine.specs.declared.library_call.LibraryCall.{LibraryCall}
-use Rattle.abstract_machine.specs.declared.library_call.LibraryCall.TheVariants as call
+use Rattle.word_semantics.specs.declared.library_call.LibraryCall.{LibraryCall}
+use Rattle.word_semantics.specs.declared.library_call.LibraryCall.TheVariants as call
 use Rattle.flow_code.specs.declared.code.Code.{Code}
-use Rattle.abstract_machine.specs.declared.event.Due.{Due}
-use Rattle.abstract_machine.specs.declared.event.Due.TheVariants as due
-use Rattle.abstract_machine.specs.declared.event.Action.{Action}
-use Rattle.abstract_machine.specs.Library.{IsSoundCall}
+use Rattle.word_semantics.specs.declared.event.Due.{Due}
+use Rattle.word_semantics.specs.declared.event.Due.TheVariants as due
+use Rattle.word_semantics.specs.declared.event.Action.{Action}
+use Rattle.word_semantics.specs.Library.{IsSoundCall}
 use Rattle.flow_code.specs.Threads.{Frame, Thread, instrs_in}
 use Rattle.flow_code.specs.Next.{due_of, action_at, stepped, act_in}
 

@@ -13,10 +13,10 @@ use Rattle.flow_code.specs.declared.region.Bound.TheVariants as bound
 use Rattle.flow_code.specs.declared.region.Span.{Span}
 use Rattle.flow_code.specs.declared.region.Region.{Region}
 use Rattle.flow_code.specs.declared.region.Region.TheVariants as region
-use Rattle.abstract_machine.specs.Values.{number}
-use Rattle.abstract_machine.specs.Pointers.{site_at, known, pointer_at}
-use Rattle.abstract_machine.specs.Registers.{register}
-use Rattle.abstract_machine.specs.Cells.{size_of}
+use Rattle.word_semantics.specs.Values.{number}
+use Rattle.word_semantics.specs.Pointers.{site_at, known, pointer_at}
+use Rattle.word_semantics.specs.Registers.{register}
+use Rattle.word_semantics.specs.Cells.{size_of}
 
 -- the lock and the stripe that have a number
 abbrev pub stripe_of : ℕ → ℕ × ℕ

@@ -11,8 +11,8 @@ use Rattle.flow_code.specs.declared.code.Function.{Function}
 use Rattle.flow_code.specs.declared.thread.Phase.{Phase}
 use Rattle.flow_code.specs.declared.thread.Phase.TheVariants as phase
 use Rattle.flow_code.specs.declared.thread.Stripe.{Stripe}
-use Rattle.abstract_machine.specs.Pointers.{pointer_at}
-use Rattle.abstract_machine.specs.Cells.{size_of}
+use Rattle.word_semantics.specs.Pointers.{pointer_at}
+use Rattle.word_semantics.specs.Cells.{size_of}
 
 -- a frame: its function and instruction, how many events of this instruction are made and the last answer that it
 -- keeps, and its registers

@@ -7,7 +7,7 @@ use Rattle.flow_code.specs.declared.code.Function.{Function}
 use Rattle.flow_code.specs.declared.code.LockInfo.{LockInfo}
 use Rattle.flow_code.specs.declared.code.LoopInfo.{LoopInfo}
 use Rattle.flow_code.specs.declared.region.Region.{Region}
-use Rattle.abstract_machine.specs.Layouts.{sites_fit}
+use Rattle.word_semantics.specs.Layouts.{sites_fit}
 use Rattle.flow_code.specs.Threads.{is_main_in}
 use Rattle.flow_code.specs.Kinds.{act_fits}
 use Rattle.flow_code.specs.Order.{order_fits}

@@ -4,12 +4,12 @@ use Rattle.rr_base.specs.declared.trap.Trap.{Trap}
 use Rattle.rr_base.specs.declared.layout.Site.{Site}
 use Rattle.flow_code.specs.declared.work.Work.{Work}
 use Rattle.flow_code.specs.declared.work.Work.TheVariants as work
-use Rattle.abstract_machine.specs.declared.operator.BinaryOp.{BinaryOp}
-use Rattle.abstract_machine.specs.declared.operator.BinaryOp.TheVariants as op
-use Rattle.abstract_machine.specs.Values.{number, word, fitting, truth, binary_of}
-use Rattle.abstract_machine.specs.Pointers.{moved, moved_by, directed, compared, elements_between, pointer_to, number_from}
-use Rattle.abstract_machine.specs.Registers.{register}
-use Rattle.abstract_machine.specs.Operators.{based, either_binary_of}
+use Rattle.word_semantics.specs.declared.operator.BinaryOp.{BinaryOp}
+use Rattle.word_semantics.specs.declared.operator.BinaryOp.TheVariants as op
+use Rattle.word_semantics.specs.Values.{number, word, fitting, truth, binary_of}
+use Rattle.word_semantics.specs.Pointers.{moved, moved_by, directed, compared, elements_between, pointer_to, number_from}
+use Rattle.word_semantics.specs.Registers.{register}
+use Rattle.word_semantics.specs.Operators.{based, either_binary_of}
 
 -- whether a register holds a pointer
 abbrev pub is_pointer : List Bool → ℕ → Bool

@@ -1,5 +1,5 @@
 use crate::work::Work;
-use abstract_machine::LibraryCall;
+use word_semantics::LibraryCall;
 use rr_base::{List, Position};
 
 /// An instruction, and where in the source it stands.

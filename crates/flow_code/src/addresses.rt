@@ -1,11 +1,11 @@
 // The addresses of globals, and whether the objects of globals lie apart.
 ghost use Rattle.std.specs.Prelude.{◌≡◌, drop};
 ghost use Rattle.rr_base.specs.Words.{pack};
-ghost use Rattle.abstract_machine.specs.Pointers as pointers;
+ghost use Rattle.word_semantics.specs.Pointers as pointers;
 ghost use Rattle.flow_code.specs.Addresses as spec;
 
 use crate::code::Code;
-use abstract_machine::site_at;
+use word_semantics::site_at;
 use rr_base::{CellKind, PtrWord, Site};
 
 /// The first global cell of the object of the site with this number; none of a site that is no global.

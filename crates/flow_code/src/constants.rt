@@ -1,6 +1,6 @@
 // The constants of a code. Each fits 64 bits by its type; what is said here is said to those who know a code alone.
 ghost use Rattle.std.specs.Prelude.{◌≡◌, true};
-ghost use Rattle.abstract_machine.specs.Values.{fits as fits_word};
+ghost use Rattle.word_semantics.specs.Values.{fits as fits_word};
 ghost use Rattle.flow_code.specs.Constants as spec;
 
 use crate::act::{Act, Instr};

@@ -3,11 +3,11 @@ ghost use Rattle.std.specs.Prelude.{◌≡◌, ◌≤◌, length, codes, nat_eq,
 ghost use Rattle.std.specs.Cmp.Lexicographic.{pointwise};
 ghost use Rattle.std.specs.Vec.{vec_capacity};
 ghost use Rattle.flow_code.specs.Threads as spec;
-ghost use Rattle.abstract_machine.specs.Registers.{words_of};
+ghost use Rattle.word_semantics.specs.Registers.{words_of};
 
 use crate::act::{Act, Instr};
 use crate::works::set_register;
-use abstract_machine::{argument, pointer_at, size_of};
+use word_semantics::{argument, pointer_at, size_of};
 use rr_base::Site;
 
 /// Whether a function of this name is the program's `main` (C99 5.1.2.2.1).

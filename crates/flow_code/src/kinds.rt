@@ -1,7 +1,7 @@
 // The registers, functions and sites that an instruction names, and the kinds of its registers.
 ghost use Rattle.std.specs.Prelude.{◌≡◌, take, Some, None};
 ghost use Rattle.std.specs.Option.{option_copied};
-ghost use Rattle.abstract_machine.specs.Kinds as kinds;
+ghost use Rattle.word_semantics.specs.Kinds as kinds;
 ghost use Rattle.flow_code.specs.Kinds as spec;
 
 use crate::act::Act;
@@ -10,7 +10,7 @@ use crate::code::{Code, Function};
 use crate::entering::is_main;
 use crate::work::Work;
 use crate::works::is_pointer;
-use abstract_machine::{BinaryOp, LibraryCall, Piece};
+use word_semantics::{BinaryOp, LibraryCall, Piece};
 
 pub(crate) fn has_register(function: &Function, r: u32) -> bool
     ensures { result ≡ spec.has_register function.now r }

@@ -1,5 +1,5 @@
 //! Flow code: functions as lists of instructions with jumps, and what one thread of a code does.
-//! It stands on `rr_base`, `sync_objects` and `abstract_machine`. Its definitions say what comes next in a thread, and the state
+//! It stands on `rr_base`, `sync_objects` and `word_semantics`. Its definitions say what comes next in a thread, and the state
 //! after it; its functions give the parts of that for any code, valid or not, exactly as the definitions have them. And
 //! it tells which codes are valid.
 #![tactic(auto)]

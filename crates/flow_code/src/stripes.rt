@@ -8,7 +8,7 @@ ghost use Rattle.flow_code.specs.Stripes.{any_from};
 
 use crate::code::{Code, LockInfo};
 use crate::region::{Base, Bound, Region, Span};
-use abstract_machine::{known, number, pointer_at, register, site_at, size_of};
+use word_semantics::{known, number, pointer_at, register, site_at, size_of};
 use rr_base::{PtrWord, Site};
 
 // In which of a lock's stripes a cell of an object of so many cells lies.

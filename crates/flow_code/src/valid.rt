@@ -1,6 +1,6 @@
 // Which codes are valid.
 ghost use Rattle.std.specs.Prelude.{◌≡◌, true};
-ghost use Rattle.abstract_machine.specs.Layouts as layouts;
+ghost use Rattle.word_semantics.specs.Layouts as layouts;
 ghost use Rattle.flow_code.specs.Constants.{constants_fit as constants_fit_of};
 ghost use Rattle.flow_code.specs.Settle.{IsRunnable};
 ghost use Rattle.flow_code.specs.Valid as spec;

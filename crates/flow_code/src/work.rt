@@ -1,4 +1,4 @@
-use abstract_machine::BinaryOp;
+use word_semantics::BinaryOp;
 use rr_base::PtrWord;
 
 /// What an instruction computes from registers. The numbers are registers but where said otherwise.

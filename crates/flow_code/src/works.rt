@@ -3,7 +3,7 @@ ghost use Rattle.std.specs.Prelude.{◌≡◌, slice_set};
 ghost use Rattle.flow_code.specs.Works as spec;
 
 use crate::work::Work;
-use abstract_machine::{
+use word_semantics::{
     based, compared, either_binary, elements_between, moved, moved_by, negate, number, number_from,
     pointer_to, register, truth, word,
 };

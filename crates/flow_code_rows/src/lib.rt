@@ -1,4 +1,4 @@
-//! Tests of `abstract_machine` and `flow_code`: operators, and which codes are valid. They stand apart, so that the crates
+//! Tests of `word_semantics` and `flow_code`: operators, and which codes are valid. They stand apart, so that the crates
 //! are not proved again for them.
 #![tactic(auto)]
 

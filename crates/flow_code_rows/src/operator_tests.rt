@@ -1,4 +1,4 @@
-use abstract_machine::{BinaryOp, LibraryCall, Piece, binary, number, piece, piece_len, word};
+use word_semantics::{BinaryOp, LibraryCall, Piece, binary, number, piece, piece_len, word};
 use rr_base::{List, Trap};
 use std::test::Fail;
 

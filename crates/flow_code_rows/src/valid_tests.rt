@@ -1,4 +1,4 @@
-use abstract_machine::{BinaryOp, LibraryCall, Piece};
+use word_semantics::{BinaryOp, LibraryCall, Piece};
 use flow_code::{Act, Base, Bound, Code, Function, Instr, LockInfo, Region, Span, Work, is_valid};
 use rr_base::{Bytes, CellKind, Layout, List, Position, PtrWord, Site};
 use std::alloc::{AllocError, Global};

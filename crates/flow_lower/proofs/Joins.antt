@@ -4,7 +4,7 @@ use Rattle.flow_code.specs.declared.act.Act.TheVariants as act
 use Rattle.flow_code.specs.declared.act.Instr.{Instr}
 use Rattle.flow_code.specs.declared.work.Work.TheVariants as work
 use Rattle.rr_base.specs.declared.position.Position.{Position}
-use Rattle.c_core.specs.Core.{Exp, conditional}
+use Rattle.core_tree.specs.Core.{Exp, conditional}
 use Rattle.flow_lower.specs.Lowered.{held, instr, one, computes, width, exp_size, exp_code}
 
 -- six pieces, one after another

@@ -6,20 +6,20 @@ use Rattle.rr_base.specs.declared.layout.CellKind.TheVariants as kind
 use Rattle.rr_base.specs.declared.layout.Site.{Site}
 use Rattle.flow_code.specs.declared.act.Act.{Act}
 use Rattle.flow_code.specs.declared.act.Act.TheVariants as act
-use Rattle.abstract_machine.specs.declared.library_call.LibraryCall.TheVariants as library_call
+use Rattle.word_semantics.specs.declared.library_call.LibraryCall.TheVariants as library_call
 use Rattle.flow_code.specs.declared.code.LoopInfo.{LoopInfo}
 use Rattle.flow_code.specs.declared.region.Bound.TheVariants as bound
 use Rattle.flow_code.specs.declared.work.Work.TheVariants as work
-use Rattle.abstract_machine.specs.declared.operator.BinaryOp.TheVariants as binary_op
-use Rattle.abstract_machine.specs.Pointers.{site_at, base_at}
-use Rattle.abstract_machine.specs.Cells.{size_of}
+use Rattle.word_semantics.specs.declared.operator.BinaryOp.TheVariants as binary_op
+use Rattle.word_semantics.specs.Pointers.{site_at, base_at}
+use Rattle.word_semantics.specs.Cells.{size_of}
 use Rattle.flow_code.specs.Valid.{is_valid}
 use Rattle.rr_base.specs.declared.position.Position.{Position}
-use Rattle.c_core.specs.declared.value.Change.TheVariants as change
-use Rattle.c_core.specs.Core.{Exp, number, null, register, global, load, binary, copy, both, set_register, store, change_register, call, library, no_exp, and_exp, Statement, block, compute, branch, branch_else, while_loop, for_loop, break_at, gives, no_statement, and_statement, Function, Program}
-use Rattle.c_core.specs.Meaning.{is_main}
+use Rattle.core_tree.specs.declared.value.Change.TheVariants as change
+use Rattle.core_tree.specs.Core.{Exp, number, null, register, global, load, binary, copy, both, set_register, store, change_register, call, library, no_exp, and_exp, Statement, block, compute, branch, branch_else, while_loop, for_loop, break_at, gives, no_statement, and_statement, Function, Program}
+use Rattle.core_tree.specs.Meaning.{is_main}
 use Rattle.flow_lower.specs.Lowered.{lowered, body_code, function_code}
-use Rattle.c_core.specs.Sound.{IsAddress, IsSoundExp, IsSoundFunction, LiesAt, IsSound}
+use Rattle.core_tree.specs.Sound.{IsAddress, IsSoundExp, IsSoundFunction, LiesAt, IsSound}
 
 abbrev at : ℕ → Position
 at line = record { line = line; column = 1 }

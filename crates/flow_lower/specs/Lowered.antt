@@ -6,13 +6,13 @@ use Rattle.flow_code.specs.declared.work.Work.TheVariants as work
 use Rattle.flow_code.specs.declared.code.Code.{Code}
 use Rattle.flow_code.specs.declared.code.Function.{Function as FlowFunction}
 use Rattle.rr_base.specs.declared.position.Position.{Position}
-use Rattle.c_core.specs.Core as core
-use Rattle.c_core.specs.Core.{Exp, null, register, object, global, load, unary, binary, move, advance, member, between, to_pointer, to_number, copy, both, either, conditional, comma, set_register, store, change_register, change_cell, call, library, allocate, Exps, no_exp, and_exp, Statement, block, compute, branch, branch_else, while_loop, do_loop, for_loop, break_at, continue_at, gives, Statements, no_statement, and_statement, Arrival, arrives, Function, Program}
-use Rattle.lower_parts.specs.Kept.{statement_kept}
-use Rattle.lower_parts.specs.Loops.{statement_loops}
-pub use Rattle.lower_parts.specs.Kinds.{exp_kinds, exps_kinds, width, maybe_kinds, statement_kinds, statements_kinds}
-pub use Rattle.lower_parts.specs.Pieces.{instr, one, computes, unary_work, change_work, truth_code, library_code}
-pub use Rattle.lower_parts.specs.Sizes.{gives_nothing, library_size, exp_size, exps_size, maybe_size, test_size, statement_size, statements_size}
+use Rattle.core_tree.specs.Core as core
+use Rattle.core_tree.specs.Core.{Exp, null, register, object, global, load, unary, binary, move, advance, member, between, to_pointer, to_number, copy, both, either, conditional, comma, set_register, store, change_register, change_cell, call, library, allocate, Exps, no_exp, and_exp, Statement, block, compute, branch, branch_else, while_loop, do_loop, for_loop, break_at, continue_at, gives, Statements, no_statement, and_statement, Arrival, arrives, Function, Program}
+use Rattle.lowering_parts.specs.Kept.{statement_kept}
+use Rattle.lowering_parts.specs.Loops.{statement_loops}
+pub use Rattle.lowering_parts.specs.Kinds.{exp_kinds, exps_kinds, width, maybe_kinds, statement_kinds, statements_kinds}
+pub use Rattle.lowering_parts.specs.Pieces.{instr, one, computes, unary_work, change_work, truth_code, library_code}
+pub use Rattle.lowering_parts.specs.Sizes.{gives_nothing, library_size, exp_size, exps_size, maybe_size, test_size, statement_size, statements_size}
 
 -- ---- expressions
 

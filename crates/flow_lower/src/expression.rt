@@ -2,15 +2,15 @@
 ghost use Rattle.std.specs.Prelude.{◌≡◌, ◌+◌, ◌++◌, map, length, false, IfOk, OnOk};
 ghost use Rattle.flow_code.specs.declared.act.Act.TheVariants as act;
 ghost use Rattle.flow_code.specs.declared.work.Work.TheVariants as work;
-ghost use Rattle.c_core.specs.Core.{listed};
-ghost use Rattle.c_core.specs.View.{exp_of, simple_of, operation_of, choice_of, assignment_of, call_of};
-ghost use Rattle.c_core.specs.Core as core;
-ghost use Rattle.lower_parts.specs.Kept.{kept, all_kept, before, before_all};
+ghost use Rattle.core_tree.specs.Core.{listed};
+ghost use Rattle.core_tree.specs.View.{exp_of, simple_of, operation_of, choice_of, assignment_of, call_of};
+ghost use Rattle.core_tree.specs.Core as core;
+ghost use Rattle.lowering_parts.specs.Kept.{kept, all_kept, before, before_all};
 ghost use Rattle.flow_lower.specs.Lowered as spec;
 
-use c_core::{Assignment, Call, Change, Choice, Operation, Simple, UnaryOp, Value};
+use core_tree::{Assignment, Call, Change, Choice, Operation, Simple, UnaryOp, Value};
 use flow_code::{Act, Instr, Work};
-use lower_parts::{
+use lowering_parts::{
     Next, Operand, copy_of, loses, loses_to, moved, places_of, push_alone, push_and, push_between,
     push_binary, push_cell_changed, push_chosen, push_computed, push_given, push_left,
     push_library, push_loaded, push_old, push_or, push_register_changed, push_set, push_stored,

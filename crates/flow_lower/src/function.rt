@@ -1,15 +1,15 @@
 //! The code of functions.
 ghost use Rattle.std.specs.Prelude.{◌≡◌, ◌+◌, ◌++◌, [], ◌∷◌, true, map, length, replicate, None, IfOk, OnOk};
 ghost use Rattle.flow_code.specs.declared.act.Act.TheVariants as act;
-ghost use Rattle.c_core.specs.View.{stmt_of, arrival_of, function_of, core_of};
-ghost use Rattle.lower_parts.specs.Kept.{statement_kept};
-ghost use Rattle.lower_parts.specs.Loops.{statement_loops};
+ghost use Rattle.core_tree.specs.View.{stmt_of, arrival_of, function_of, core_of};
+ghost use Rattle.lowering_parts.specs.Kept.{statement_kept};
+ghost use Rattle.lowering_parts.specs.Loops.{statement_loops};
 ghost use Rattle.flow_lower.specs.Lowered as spec;
 
 use crate::statement::{Around, push_statement};
-use c_core::{Arrival, Core, CoreFunction};
+use core_tree::{Arrival, Core, CoreFunction};
 use flow_code::{Act, Code, Function, Instr, LoopInfo};
-use lower_parts::{Next, push, push_statement_kinds, push_statement_loops, statement_size};
+use lowering_parts::{Next, push, push_statement_kinds, push_statement_loops, statement_size};
 use rr_base::{Bytes, List, Position, sum};
 use std::alloc::{AllocError, Global};
 

@@ -1,4 +1,4 @@
-//! The code of a core tree. It stands on `c_core`, `flow_code` and `lower_parts`.
+//! The code of a core tree. It stands on `core_tree`, `flow_code` and `lowering_parts`.
 #![tactic(auto)]
 
 mod expression;

@@ -1,15 +1,15 @@
 //! The code of statements.
 ghost use Rattle.std.specs.Prelude.{◌≡◌, ◌+◌, ◌++◌, ◌∷◌, map, length, IfOk, OnOk};
 ghost use Rattle.flow_code.specs.declared.act.Act.TheVariants as act;
-ghost use Rattle.c_core.specs.Core.{listed_statements};
-ghost use Rattle.c_core.specs.View.{exp_of, maybe_of, stmt_of};
-ghost use Rattle.lower_parts.specs.Kept.{kept, maybe_kept, statement_kept, statements_kept};
+ghost use Rattle.core_tree.specs.Core.{listed_statements};
+ghost use Rattle.core_tree.specs.View.{exp_of, maybe_of, stmt_of};
+ghost use Rattle.lowering_parts.specs.Kept.{kept, maybe_kept, statement_kept, statements_kept};
 ghost use Rattle.flow_lower.specs.Lowered as spec;
 
 use crate::expression::push_value;
-use c_core::{Statement, Value};
+use core_tree::{Statement, Value};
 use flow_code::{Act, Instr};
-use lower_parts::{Next, maybe_size, push_last, statement_size, test_size, value_size};
+use lowering_parts::{Next, maybe_size, push_last, statement_size, test_size, value_size};
 use rr_base::{List, Position, sum};
 use std::alloc::{AllocError, Global};
 

@@ -9,10 +9,10 @@ use Rattle.facts.specs.Summaries.{AreSummaries}
 use Rattle.facts.proofs.Tables as tables
 use Rattle.facts.proofs.Summaries as summaries
 use Rattle.flow_code.specs.declared.code.Code.{Code}
-use Rattle.weak_facts.specs.declared.grain.Grained.{Grained}
-use Rattle.weak_facts.specs.declared.grain.Grains.{Grains}
-use Rattle.weak_facts.specs.Grains.{AreGrains}
-use Rattle.weak_facts.specs.Ranges.{ranges_of}
+use Rattle.weak_lock_facts.specs.declared.grain.Grained.{Grained}
+use Rattle.weak_lock_facts.specs.declared.grain.Grains.{Grains}
+use Rattle.weak_lock_facts.specs.Grains.{AreGrains}
+use Rattle.weak_lock_facts.specs.Ranges.{ranges_of}
 use Rattle.grain_choice.proofs.Unique as grains
 use Rattle.weak_code.specs.Weakened.{weakened}
 use Rattle.lock_sound.specs.Weakened.{Analysed, IsAnalysed}

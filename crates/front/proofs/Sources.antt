@@ -13,8 +13,8 @@ use Rattle.c_grammar.specs.Parse.{Outcome, Got, Stuck, Spent}
 use Rattle.c_grammar.proofs.Exactly.{parsed_exactly}
 use Rattle.c_types.specs.declared.fault.Found.{Found}
 use Rattle.c_sites.specs.Whole.{first_fault}
-use Rattle.c_core.specs.Core.{Program}
-use Rattle.c_core.specs.Meaning.{run_of}
+use Rattle.core_tree.specs.Core.{Program}
+use Rattle.core_tree.specs.Meaning.{run_of}
 use Rattle.call_targets.specs.Resolved.{resolved}
 use Rattle.call_targets.proofs.Places.{main_stays}
 use Rattle.call_targets.proofs.Runs.{same_runs}
@@ -27,7 +27,7 @@ use Rattle.flow_code.specs.declared.thread.Phase.TheVariants as phase
 use Rattle.flow_code.specs.Valid.{is_valid}
 use Rattle.flow_code.proofs.Runnable.{valid_runnable}
 use Rattle.flow_lower.specs.Lowered.{lowered}
-use Rattle.c_core.specs.Sound.{IsSound}
+use Rattle.core_tree.specs.Sound.{IsSound}
 use Rattle.lower_sound.specs.Follows.{Follows, IsAtStart, starts_as}
 use Rattle.lower_sound.proofs.Valid.{valid}
 use Rattle.lower_sound.proofs.SoundWithin.{sound_within}

@@ -2,15 +2,15 @@
 use Rattle.std.proofs.Common.{◌≡◌, Bool, true, List, [], ◌∷◌, length, map, refl, sym, subst}
 use Rattle.std.specs.Prelude.{◌==◌}
 use Rattle.std.specs.List.{list_all}
-use Rattle.c_core.specs.Core as core
+use Rattle.core_tree.specs.Core as core
 use Rattle.call_targets.specs.Resolved.{resolved}
 use Rattle.c_elaborate.specs.Whole.{core_of_source}
 use Rattle.c_text.specs.Texts.{Text}
 use Rattle.flow_code.specs.declared.code.Code.{Code}
 use Rattle.flow_lower.specs.Lowered.{function_code, lowered}
 use Rattle.weak_code.specs.Stripped.{is_plain}
-use Rattle.weak_sound.specs.Apart.{loops_are_apart}
-use Rattle.weak_ways.specs.LoopsClosed.{loops_are_closed}
+use Rattle.weak_valid.specs.Apart.{loops_are_apart}
+use Rattle.guard_paths.specs.LoopsClosed.{loops_are_closed}
 use Rattle.source_loops.proofs.Marks.{apart}
 use Rattle.source_loops.proofs.Closed.{closed}
 use Rattle.front.specs.Plain.{IsCodeOf}

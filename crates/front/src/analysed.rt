@@ -6,10 +6,10 @@ ghost use Rattle.facts.specs.Summaries.{AreSummaries};
 ghost use Rattle.flow_code.specs.Valid as validity;
 ghost use Rattle.weak_code.specs.Stripped.{is_plain};
 ghost use Rattle.weak_code.specs.Weakened.{weakened};
-ghost use Rattle.weak_facts.specs.Grains.{AreGrains};
-ghost use Rattle.weak_facts.specs.Ranges.{ranges_of};
-ghost use Rattle.weak_sound.specs.Apart.{loops_are_apart};
-ghost use Rattle.weak_ways.specs.LoopsClosed.{loops_are_closed};
+ghost use Rattle.weak_lock_facts.specs.Grains.{AreGrains};
+ghost use Rattle.weak_lock_facts.specs.Ranges.{ranges_of};
+ghost use Rattle.weak_valid.specs.Apart.{loops_are_apart};
+ghost use Rattle.guard_paths.specs.LoopsClosed.{loops_are_closed};
 ghost use Rattle.front.specs.Plain.{IsCodeOf};
 ghost use Rattle.front.specs.Readings.{IsRefusedFor};
 
@@ -26,7 +26,7 @@ use profiles::Profile;
 use race_pairs::pairs;
 use rr_base::List;
 use std::alloc::{AllocError, Global};
-use weak_facts::Grains;
+use weak_lock_facts::Grains;
 use weaken::weaken;
 
 /// What two threads may touch at once: the functions' summaries, and the pairs.

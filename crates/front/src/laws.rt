@@ -1,12 +1,12 @@
 //! What is known of a text that is read as a source without a fault, and of its weakened code.
 ghost use Rattle.std.specs.Prelude.{◌≡◌, ◌≤◌, ◌^◌, ℕ, List, length};
-ghost use Rattle.c_core.specs.Meaning.{run_of};
+ghost use Rattle.core_tree.specs.Meaning.{run_of};
 ghost use Rattle.c_elaborate.specs.Whole.{core_of_source};
 ghost use Rattle.c_text.specs.Texts.{Text};
 ghost use Rattle.c_tree.specs.Tree.{Outer};
 ghost use Rattle.flow_code.specs.Threads.{Thread};
 ghost use Rattle.lower_sound.specs.Follows.{Follows, IsAtStart};
-ghost use Rattle.c_core.specs.Sound.{IsSound};
+ghost use Rattle.core_tree.specs.Sound.{IsSound};
 ghost use Rattle.front.specs.Plain.{plain_code};
 ghost use Rattle.front.specs.Readings.{sound, IsReading};
 ghost use Rattle.lock_sound.specs.Weakened.{Analysed, IsAnalysed};

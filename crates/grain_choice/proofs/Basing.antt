@@ -10,10 +10,10 @@ use Rattle.facts.specs.declared.pair.AccessAt.{AccessAt}
 use Rattle.facts.specs.declared.pair.Pair.{Pair}
 use Rattle.profiles.specs.declared.profile.Profile.{Profile}
 use Rattle.facts.specs.Pairs.{access_less, access_same, act_of}
-use Rattle.weak_facts.specs.declared.grain.Grain.TheVariants as grain
-use Rattle.weak_facts.specs.declared.grain.Grained.{Grained}
-use Rattle.weak_facts.specs.declared.range.Range.{Range}
-use Rattle.weak_facts.specs.Grains.{is_racy, is_seen, is_met, loop_of, block_at, instrs_of, is_load_or_store, is_narrow, is_beside, all_beside, together, loop_grain, grain_of, rows_ascend, AreGrains}
+use Rattle.weak_lock_facts.specs.declared.grain.Grain.TheVariants as grain
+use Rattle.weak_lock_facts.specs.declared.grain.Grained.{Grained}
+use Rattle.weak_lock_facts.specs.declared.range.Range.{Range}
+use Rattle.weak_lock_facts.specs.Grains.{is_racy, is_seen, is_met, loop_of, block_at, instrs_of, is_load_or_store, is_narrow, is_beside, all_beside, together, loop_grain, grain_of, rows_ascend, AreGrains}
 use Rattle.grain_choice.specs.declared.rows.Basis.{Basis}
 use Rattle.grain_choice.specs.Chosen.{may_share, IsBasis, IsBasisOf, grain_by, row_by}
 use Rattle.grain_choice.specs.Listed.{is_listed, ascend, Lists}

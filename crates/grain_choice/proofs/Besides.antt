@@ -8,8 +8,8 @@ use Rattle.flow_code.specs.declared.act.Instr.{Instr}
 use Rattle.facts.specs.declared.pair.AccessAt.{AccessAt}
 use Rattle.facts.specs.Blocks.{begins_block}
 use Rattle.facts.specs.Pairs.{access_less}
-use Rattle.weak_facts.specs.declared.grain.Grain.TheVariants as grain
-use Rattle.weak_facts.specs.Grains.{block_at, those_below, together}
+use Rattle.weak_lock_facts.specs.declared.grain.Grain.TheVariants as grain
+use Rattle.weak_lock_facts.specs.Grains.{block_at, those_below, together}
 use Rattle.grain_choice.specs.Listed.{is_listed, ascend}
 use Rattle.grain_choice.specs.Tables.{AreFirsts, block_in, is_block, holds_in_block}
 use Rattle.grain_choice.proofs.Bools.{either, and_both, both_and}

@@ -10,7 +10,7 @@ use Rattle.flow_code.specs.declared.code.Code.{Code}
 use Rattle.flow_code.specs.declared.code.Function.{Function}
 use Rattle.flow_code.specs.Threads.{instrs_in}
 use Rattle.facts.specs.Blocks.{begins_block}
-use Rattle.weak_facts.specs.Grains.{block_at, instrs_of}
+use Rattle.weak_lock_facts.specs.Grains.{block_at, instrs_of}
 use Rattle.grain_choice.specs.Tables.{AreFirsts, HaveFirsts}
 
 -- the block of the instruction before

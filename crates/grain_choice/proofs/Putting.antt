@@ -5,8 +5,8 @@ use Rattle.std.specs.BTreeMap as tree
 use Rattle.std.specs.Ordering.{is_eq}
 use Rattle.std.proofs.lemmas.List.{take_more}
 use Rattle.facts.specs.declared.pair.AccessAt.{AccessAt}
-use Rattle.weak_facts.specs.declared.range.Range.{Range}
-use Rattle.weak_facts.specs.Grains.{is_range_of, loop_of}
+use Rattle.weak_lock_facts.specs.declared.range.Range.{Range}
+use Rattle.weak_lock_facts.specs.Grains.{is_range_of, loop_of}
 use Rattle.grain_choice.specs.Loops.{key_order, loop_at, first_of}
 use Rattle.grain_choice.proofs.Ascents.{ties, same_is}
 

@@ -8,9 +8,9 @@ use Rattle.profiles.specs.declared.profile.Profile.{Profile}
 use Rattle.facts.specs.Pairs.{access_less}
 use Rattle.profiles.proofs.Ascending as ascending
 use Rattle.profiles.proofs.Ascending.{and_left, and_right}
-use Rattle.weak_facts.specs.declared.grain.Grained.{Grained}
-use Rattle.weak_facts.specs.declared.range.Range.{Range}
-use Rattle.weak_facts.specs.Grains.{grain_of, rows_ascend, AreGrains}
+use Rattle.weak_lock_facts.specs.declared.grain.Grained.{Grained}
+use Rattle.weak_lock_facts.specs.declared.range.Range.{Range}
+use Rattle.weak_lock_facts.specs.Grains.{grain_of, rows_ascend, AreGrains}
 use Rattle.grain_choice.proofs.Ascents as ascents
 
 abbrev less : Grained → Grained → Bool

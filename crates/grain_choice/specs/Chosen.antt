@@ -6,11 +6,11 @@ use Rattle.facts.specs.declared.pair.AccessAt.{AccessAt}
 use Rattle.facts.specs.declared.pair.Pair.{Pair}
 use Rattle.profiles.specs.declared.profile.Profile.{Profile}
 use Rattle.facts.specs.Pairs.{act_of}
-use Rattle.weak_facts.specs.declared.grain.Grain.{Grain}
-use Rattle.weak_facts.specs.declared.grain.Grain.TheVariants as grain
-use Rattle.weak_facts.specs.declared.grain.Grained.{Grained}
-use Rattle.weak_facts.specs.declared.range.Range.{Range}
-use Rattle.weak_facts.specs.Grains.{is_met, loop_of, is_load_or_store, loop_grain, together}
+use Rattle.weak_lock_facts.specs.declared.grain.Grain.{Grain}
+use Rattle.weak_lock_facts.specs.declared.grain.Grain.TheVariants as grain
+use Rattle.weak_lock_facts.specs.declared.grain.Grained.{Grained}
+use Rattle.weak_lock_facts.specs.declared.range.Range.{Range}
+use Rattle.weak_lock_facts.specs.Grains.{is_met, loop_of, is_load_or_store, loop_grain, together}
 use Rattle.grain_choice.specs.declared.rows.Basis.{Basis}
 use Rattle.grain_choice.specs.Listed.{is_listed, ascend}
 use Rattle.grain_choice.specs.Loops.{loop_at}

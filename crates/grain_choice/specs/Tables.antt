@@ -3,7 +3,7 @@ use Rattle.std.specs.Prelude.{◌≡◌, ℕ, ◌<◌, ◌==◌, ◌&&◌, Bool,
 use Rattle.flow_code.specs.declared.act.Instr.{Instr}
 use Rattle.flow_code.specs.declared.code.Code.{Code}
 use Rattle.facts.specs.declared.pair.AccessAt.{AccessAt}
-use Rattle.weak_facts.specs.Grains.{block_at, instrs_of, those_below}
+use Rattle.weak_lock_facts.specs.Grains.{block_at, instrs_of, those_below}
 use Rattle.grain_choice.specs.Listed.{is_listed}
 
 -- each is the first instruction of the block of the instruction in its place

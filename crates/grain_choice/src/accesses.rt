@@ -2,7 +2,7 @@
 ghost use Rattle.std.specs.Prelude.{◌≡◌, ◌<◌, ◌≤◌, ◌||◌, ℕ, length, true, false, slice_index_or, IfOk, OnOk};
 ghost use Rattle.facts.specs.declared.pair.AccessAt.{AccessAt as Access};
 ghost use Rattle.facts.specs.Pairs as facts_pairs;
-ghost use Rattle.weak_facts.specs.Grains as spec;
+ghost use Rattle.weak_lock_facts.specs.Grains as spec;
 ghost use Rattle.grain_choice.specs.Listed.{is_listed, ascend, Agree, Lists};
 
 use facts::{AccessAt, Pair};

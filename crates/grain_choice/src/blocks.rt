@@ -1,6 +1,6 @@
 // Blocks, by their first instructions.
 ghost use Rattle.std.specs.Prelude.{◌≡◌, ◌<◌, if◌then◌else◌, length, true, slice_get, slice_index_or, Some, IfOk};
-ghost use Rattle.weak_facts.specs.Grains as spec;
+ghost use Rattle.weak_lock_facts.specs.Grains as spec;
 ghost use Rattle.grain_choice.specs.Listed.{is_listed, ascend};
 ghost use Rattle.grain_choice.specs.Tables.{AreFirsts, HaveFirsts, block_in, is_in_block, holds_in_block, beside};
 
@@ -9,7 +9,7 @@ use facts::{AccessAt, block_starts};
 use flow_code::{Code, Instr};
 use rr_base::List;
 use std::alloc::{AllocError, Global};
-use weak_facts::Grain;
+use weak_lock_facts::Grain;
 
 fn first_at(begins: bool, at: usize, first: usize) -> usize
     ensures { result ≡ (if begins then at else first) }

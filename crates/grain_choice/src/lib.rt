@@ -1,5 +1,5 @@
 //! The grain at which each racy access is guarded, by the race pairs, the known ranges and a profile. It stands on
-//! `rr_base`, `flow_code`, `facts` and `weak_facts`. A law says that there is one answer.
+//! `rr_base`, `flow_code`, `facts` and `weak_lock_facts`. A law says that there is one answer.
 #![tactic(auto)]
 
 mod accesses;

@@ -2,13 +2,13 @@
 ghost use Rattle.std.specs.Prelude.{◌≡◌, ◌∷◌, [], IfOk, OnOk};
 ghost use Rattle.std.specs.BTreeMap as tree;
 ghost use Rattle.facts.specs.declared.pair.AccessAt.{AccessAt};
-ghost use Rattle.weak_facts.specs.Grains as spec;
+ghost use Rattle.weak_lock_facts.specs.Grains as spec;
 ghost use Rattle.grain_choice.specs.Loops.{loop_at, first_of};
 
 use facts::AccessAt;
 use std::alloc::{AllocError, Global};
 use std::collections::BTreeMap;
-use weak_facts::Range;
+use weak_lock_facts::Range;
 
 /// The Mark of the loop of each range's access, by the access's function and instruction.
 pub(crate) type Loops = BTreeMap<(u32, u32), u32>;

@@ -1,8 +1,8 @@
 // The grains of racy accesses.
 ghost use Rattle.std.specs.Prelude.{◌≡◌, if◌then◌else◌, true, None, filter, map, IfOk};
 ghost use Rattle.facts.specs.Pairs.{act_of};
-ghost use Rattle.weak_facts.specs.Grains as spec;
-ghost use Rattle.weak_facts.specs.Grains.{AreGrains};
+ghost use Rattle.weak_lock_facts.specs.Grains as spec;
+ghost use Rattle.weak_lock_facts.specs.Grains.{AreGrains};
 ghost use Rattle.grain_choice.specs.Chosen.{may_share, IsBasis, IsBasisOf, grain_by, row_by};
 ghost use Rattle.grain_choice.specs.Listed.{is_listed};
 ghost use Rattle.grain_choice.specs.Loops.{loop_at};
@@ -17,7 +17,7 @@ use flow_code::{Act, Code};
 use profiles::Profile;
 use rr_base::List;
 use std::alloc::{AllocError, Global};
-use weak_facts::{Grain, Grained, Grains, Range};
+use weak_lock_facts::{Grain, Grained, Grains, Range};
 
 /// What grains are read from: the accesses of pairs of which the profile has the functions, the loops of those with known
 /// ranges, the accesses that may be guarded with their blocks, and the first instruction of each instruction's block.

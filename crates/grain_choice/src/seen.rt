@@ -1,7 +1,7 @@
 // Pairs of which a profile has the functions.
 ghost use Rattle.std.specs.Prelude.{◌≡◌, filter, List, ℕ, IfOk};
 ghost use Rattle.profiles.specs.Profile as names;
-ghost use Rattle.weak_facts.specs.Grains as spec;
+ghost use Rattle.weak_lock_facts.specs.Grains as spec;
 
 use facts::Pair;
 use flow_code::Code;

@@ -1,14 +1,14 @@
 ghost use Rattle.std.specs.Prelude.{◌≡◌, IfOk};
 
 use super::*;
-use abstract_machine::LibraryCall;
+use word_semantics::LibraryCall;
 use facts::{AccessAt, Pair};
 use flow_code::{Act, Code, Function, Instr, Work};
 use profiles::{FunctionPairs, Profile};
 use rr_base::{Bytes, List, Place, Position};
 use std::alloc::{AllocError, Global};
 use std::test::Fail;
-use weak_facts::{Grain, Grained, Range};
+use weak_lock_facts::{Grain, Grained, Range};
 
 const START: Position = Position { line: 1, column: 1 };
 

@@ -5,11 +5,11 @@ use Rattle.flow_code.specs.declared.code.LoopInfo.{LoopInfo}
 use Rattle.flow_code.specs.declared.region.Base.{Base}
 use Rattle.flow_code.specs.declared.region.Region.TheVariants as region
 use Rattle.flow_code.specs.declared.region.Span.{Span}
-use Rattle.weak_facts.specs.declared.grain.Grain.TheVariants as grain
+use Rattle.weak_lock_facts.specs.declared.grain.Grain.TheVariants as grain
 use Rattle.weak_code.specs.declared.stretch.RacyAccess.{RacyAccess}
 use Rattle.weak_code.specs.declared.stretch.Stretch.{Stretch}
 use Rattle.weak_code.specs.Stretches.{same_grain, with_grain, function_stretch, spans_of, loop_stretch, loop_stretches, block_stretch, block_from, block_stretches, access_stretch, access_stretches, stretches_of}
-use Rattle.weak_sound.proofs.Accesses.{Each, each_append, each_filter_map}
+use Rattle.weak_valid.proofs.Accesses.{Each, each_append, each_filter_map}
 use Rattle.std.proofs.lemmas.Option.{same_Some}
 
 -- its last instruction is its first, if it is that of a cell

@@ -7,16 +7,16 @@ use Rattle.std.proofs.Math.Nat.{div-lt_iff_lt-mul}
 use Rattle.rr_base.specs.Words.{site_of, length_of, offset_of}
 use Rattle.rr_base.specs.declared.layout.Place.{Place}
 use Rattle.rr_base.specs.declared.layout.Site.{Site}
-use Rattle.abstract_machine.specs.Pointers.{site_at}
+use Rattle.word_semantics.specs.Pointers.{site_at}
 use Rattle.flow_code.specs.declared.code.Code.{Code}
 use Rattle.flow_code.specs.declared.code.LockInfo.{LockInfo}
 use Rattle.flow_code.specs.Stripes.{stripe_at, class_in, lock_guards, points_to_cell, among, stripes_in}
 use Rattle.facts.specs.PointsTo.{Tables}
-use Rattle.weak_facts.specs.declared.grain.Grained.{Grained}
+use Rattle.weak_lock_facts.specs.declared.grain.Grained.{Grained}
 use Rattle.weak_code.specs.WeakLocks.{is_striped, locks_for}
-use Rattle.weak_sound.proofs.Tests.{both}
-use Rattle.weak_ways.proofs.Guarded.{In}
-use Rattle.weak_ways.proofs.Nested.{any_at}
+use Rattle.weak_valid.proofs.Tests.{both}
+use Rattle.guard_paths.proofs.Guarded.{In}
+use Rattle.guard_paths.proofs.Nested.{any_at}
 
 pub among_in : (n : ℕ) (locks : List ℕ) → In n locks → among locks n ≡ true
 among_in n locks h = any_at (λ k. k == n) locks h.0 n h.1 (grind (arith, nat_tests))

@@ -16,17 +16,17 @@ use Rattle.weak_code.specs.Places.{before, covers, enter}
 use Rattle.weak_code.specs.Stripped.{is_weak, plain_of}
 use Rattle.weak_code.specs.Weakened.{retarget, at_instr, weakened_instrs}
 use Rattle.weak_code.proofs.Stripping.{ArePlain, plain_seat, weak_before}
-use Rattle.weak_sound.proofs.OrderFits.{weak_at}
-use Rattle.weak_sound.proofs.Tests.{both}
-use Rattle.weak_ways.specs.Guards.{IsSeat}
-use Rattle.weak_ways.specs.Ways.{Way}
-use Rattle.weak_ways.specs.Walked as walked
-use Rattle.weak_ways.specs.Walked.{Opening, opened_with, Walked}
-use Rattle.weak_ways.proofs.Guarded.{In}
-use Rattle.weak_ways.proofs.Nested.{IsIn}
-use Rattle.weak_ways.proofs.Passing.{AreNested, Here, at_weak, at_plain, standing, along}
-use Rattle.weak_ways.proofs.Standing.{times, has_test, returns, stays}
-use Rattle.weak_ways.proofs.Walks.{numbers, way, weak_goes, in_numbers, of_closed, in_times, plain_opened, plain_next}
+use Rattle.weak_valid.proofs.OrderFits.{weak_at}
+use Rattle.weak_valid.proofs.Tests.{both}
+use Rattle.guard_paths.specs.Guards.{IsSeat}
+use Rattle.guard_paths.specs.Ways.{Way}
+use Rattle.guard_paths.specs.Walked as walked
+use Rattle.guard_paths.specs.Walked.{Opening, opened_with, Walked}
+use Rattle.guard_paths.proofs.Guarded.{In}
+use Rattle.guard_paths.proofs.Nested.{IsIn}
+use Rattle.guard_paths.proofs.Passing.{AreNested, Here, at_weak, at_plain, standing, along}
+use Rattle.guard_paths.proofs.Standing.{times, has_test, returns, stays}
+use Rattle.guard_paths.proofs.Walks.{numbers, way, weak_goes, in_numbers, of_closed, in_times, plain_opened, plain_next}
 
 differ : (b : Bool) → b ≡ true → b ≡ false → ⊥
 differ true p q = cc

@@ -5,8 +5,8 @@ use Rattle.std.specs.List.{Contains}
 use Rattle.std.proofs.lemmas.Bool.{and_from}
 use Rattle.std.proofs.lemmas.Option.{same_Some}
 use Rattle.rr_base.specs.Words.{offset_of}
-use Rattle.abstract_machine.specs.Pointers.{known}
-use Rattle.abstract_machine.specs.Registers.{register}
+use Rattle.word_semantics.specs.Pointers.{known}
+use Rattle.word_semantics.specs.Registers.{register}
 use Rattle.flow_code.specs.declared.code.Code.{Code}
 use Rattle.flow_code.specs.declared.code.Function.{Function}
 use Rattle.flow_code.specs.declared.region.Base.{Base}
@@ -17,10 +17,10 @@ use Rattle.flow_code.specs.Valid.{is_valid}
 use Rattle.facts.specs.declared.pair.Pair.{Pair}
 use Rattle.profiles.specs.declared.profile.Profile.{Profile}
 use Rattle.facts.specs.PointsTo.{Tables}
-use Rattle.weak_facts.specs.declared.grain.Grained.{Grained}
-use Rattle.weak_facts.specs.declared.range.Range.{Range}
-use Rattle.weak_facts.specs.Grains.{AreGrains}
-use Rattle.weak_facts.specs.Ranges.{ranges_of}
+use Rattle.weak_lock_facts.specs.declared.grain.Grained.{Grained}
+use Rattle.weak_lock_facts.specs.declared.range.Range.{Range}
+use Rattle.weak_lock_facts.specs.Grains.{AreGrains}
+use Rattle.weak_lock_facts.specs.Ranges.{ranges_of}
 use Rattle.loop_bounds.specs.Turns.{Setting}
 use Rattle.weak_code.specs.declared.stretch.RacyAccess.{RacyAccess}
 use Rattle.weak_code.specs.declared.stretch.Stretch.{Stretch}
@@ -28,15 +28,15 @@ use Rattle.weak_code.specs.Stretches.{racy_accesses, stretches_of}
 use Rattle.weak_code.specs.WeakLocks.{places_in, locks_for}
 use Rattle.weak_code.specs.Weakened.{with_stretches, weakened_function, weakened}
 use Rattle.weak_code.specs.Stripped.{is_plain}
-use Rattle.weak_sound.specs.Apart.{loops_are_apart}
-use Rattle.weak_sound.proofs.Accesses.{each_at, IsFit, accesses_fit}
-use Rattle.weak_sound.proofs.CountedLoops.{loops_are_counted}
-use Rattle.weak_sound.proofs.Tests.{got_map}
-use Rattle.weak_ways.specs.LoopsClosed.{loops_are_closed}
-use Rattle.weak_ways.specs.Guards.{IsSeat, Guards}
-use Rattle.weak_ways.specs.Walked.{Opening, Walked}
-use Rattle.weak_ways.proofs.Covered.{IsReady, plain_here, order_here, nested_here, weakened_at}
-use Rattle.weak_ways.proofs.Guarded.{contains_in}
+use Rattle.weak_valid.specs.Apart.{loops_are_apart}
+use Rattle.weak_valid.proofs.Accesses.{each_at, IsFit, accesses_fit}
+use Rattle.weak_valid.proofs.CountedLoops.{loops_are_counted}
+use Rattle.weak_valid.proofs.Tests.{got_map}
+use Rattle.guard_paths.specs.LoopsClosed.{loops_are_closed}
+use Rattle.guard_paths.specs.Guards.{IsSeat, Guards}
+use Rattle.guard_paths.specs.Walked.{Opening, Walked}
+use Rattle.guard_paths.proofs.Covered.{IsReady, plain_here, order_here, nested_here, weakened_at}
+use Rattle.guard_paths.proofs.Guarded.{contains_in}
 use Rattle.guard_stripes.specs.Ranged.{is_ranged}
 use Rattle.guard_stripes.proofs.Alone.{IsShort, all_short}
 use Rattle.guard_stripes.proofs.Stripes.{among_in, stripe_is}

@@ -1,5 +1,5 @@
 //! The region of a function, of a block or of a single access takes the stripe of each cell that it guards. It stands on
-//! `weak_ways`.
+//! `guard_paths`.
 #![tactic(auto)]
 
 mod laws;

@@ -1,13 +1,13 @@
 -- The profile that a job is given, and what a log keeps of it.
 use Rattle.std.specs.Prelude.{◌≡◌, ℕ, Bool, ◌&&◌, List, filter, Option, Some, None, Result, Ok, Err}
-use Rattle.answers.specs.declared.answer.Answer.{Answer}
-use Rattle.answers.specs.declared.answer.Answer.TheVariants as answer
-use Rattle.answers.specs.declared.answer.Part.TheVariants as part
+use Rattle.command_line.specs.declared.answer.Answer.{Answer}
+use Rattle.command_line.specs.declared.answer.Answer.TheVariants as answer
+use Rattle.command_line.specs.declared.answer.Part.TheVariants as part
 use Rattle.profiles.specs.Profile.{Pair}
 use Rattle.profiles.specs.declared.profile.Profile.{Profile}
 use Rattle.profiles.specs.declared.profile.Profile.TheVariants as profile
 use Rattle.order_log.specs.Line.{is_name}
-use Rattle.outcomes.specs.Steps.{IsFile, Lacks}
+use Rattle.job_outcomes.specs.Steps.{IsFile, Lacks}
 use Rattle.profile_book.specs.Faults.{number_of}
 use Rattle.profile_book.specs.Reading.{Answers}
 use Rattle.profile_book.specs.declared.fault.ProfileFault.{ProfileFault}

@@ -2,17 +2,17 @@
 
 ghost use Rattle.std.specs.Prelude.{◌≡◌, filter, Some, IfErr, IfOk, MatchResult, Ok, option_map};
 ghost use Rattle.job_profiles.specs.Profiles.{IsProfile, IsSpelled, LacksProfile, are_names, named as named_of};
-ghost use Rattle.answers.specs.declared.answer.Answer.TheVariants as answer;
+ghost use Rattle.command_line.specs.declared.answer.Answer.TheVariants as answer;
 ghost use Rattle.profiles.specs.declared.profile.Profile.TheVariants as profile;
 ghost use Rattle.order_log.specs.Line as line;
 ghost use Rattle.order_log.specs.Log.{HasNames};
-ghost use Rattle.outcomes.specs.Faults.{IsPure, ShelfStops};
-ghost use Rattle.outcomes.specs.Steps.{Finds};
-ghost use Rattle.outcomes.specs.declared.stop.Stop.TheVariants as stop;
+ghost use Rattle.job_outcomes.specs.Faults.{IsPure, ShelfStops};
+ghost use Rattle.job_outcomes.specs.Steps.{Finds};
+ghost use Rattle.job_outcomes.specs.declared.stop.Stop.TheVariants as stop;
 
-use answers::{Answer, Part};
+use command_line::{Answer, Part};
 use order_log::is_name;
-use outcomes::{Keeper, Stop, file};
+use job_outcomes::{Keeper, Stop, file};
 use profile_book::{ProfileFault, read_profile};
 use profiles::{FunctionPairs, Profile};
 use rr_base::{Bytes, List};

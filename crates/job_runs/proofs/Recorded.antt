@@ -1,30 +1,30 @@
 -- What a run of weakened code leaves.
 use Rattle.std.proofs.Common.{◌≡◌, ◌≤◌, refl, sym, ap, ◌∙◌, subst, ℕ, List, [], ◌∷◌, Result, Err, Some, length}
 use Rattle.std.specs.List.{AllByRecursion}
-use Rattle.answers.specs.Jobs.{RecordAsked, HasRecordLimits}
+use Rattle.command_line.specs.Jobs.{RecordAsked, HasRecordLimits}
 use Rattle.core_run.specs.Histories.{run_of, lists_of, entries_in}
 use Rattle.core_run.specs.Machine.{Told}
 use Rattle.flow_code.specs.declared.code.Code.{Code}
 use Rattle.lock_sound.specs.Weakened.{Analysed}
 use Rattle.order_log.specs.Log.{AreWithin, LogView}
 use Rattle.order_log.specs.Text.{log_text}
-use Rattle.outcomes.specs.Faults.{CrewStops, InputStops, RunStops}
-use Rattle.outcomes.specs.Steps.{Gives}
-use Rattle.outcomes.specs.declared.outcome.Outcome.{Outcome}
-use Rattle.outcomes.specs.declared.stop.Stop.{Stop}
-use Rattle.outcomes.specs.declared.stop.Stop.TheVariants as stop
+use Rattle.job_outcomes.specs.Faults.{CrewStops, InputStops, RunStops}
+use Rattle.job_outcomes.specs.Steps.{Gives}
+use Rattle.job_outcomes.specs.declared.outcome.Outcome.{Outcome}
+use Rattle.job_outcomes.specs.declared.stop.Stop.{Stop}
+use Rattle.job_outcomes.specs.declared.stop.Stop.TheVariants as stop
 use Rattle.profiles.specs.declared.profile.Profile.{Profile}
 use Rattle.recorder.specs.Records.{Records}
 use Rattle.recorder.specs.declared.record.Recorded.{Recorded}
-use Rattle.runs.specs.Labels.{Label}
-use Rattle.runs.specs.Merge.{written_merge}
-use Rattle.runs.specs.Steps.{State}
+use Rattle.run_theory.specs.Labels.{Label}
+use Rattle.run_theory.specs.Merge.{written_merge}
+use Rattle.run_theory.specs.Steps.{State}
 use Rattle.sync_objects.specs.Names.{Fits}
 use Rattle.sync_objects.specs.Setup.{SetupView, IsWithinLimits}
 use Rattle.sync_objects.specs.declared.entry.Entry.{Entry}
-use Rattle.thread_flow.specs.declared.access.Formula.{Formula}
+use Rattle.thread_interpreter.specs.declared.access.Formula.{Formula}
 use Rattle.walk_answers.specs.Walking.{formula_of, outcome_of}
-use Rattle.access_order.specs.Orders.{AreOrdered}
+use Rattle.happens_before.specs.Orders.{AreOrdered}
 use Rattle.job_runs.specs.Recordings.{setup_of, IsLogged, IsRunOf}
 use Rattle.job_runs.specs.Works.{HasRun, Work}
 

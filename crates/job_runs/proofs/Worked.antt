@@ -1,13 +1,13 @@
 -- When the crew has done nothing.
 use Rattle.std.proofs.Common.{◌≡◌, sym, ◌∙◌, ap, subst, ℕ, Result, Ok, Err}
-use Rattle.answers.specs.declared.answer.Answer.{Answer}
-use Rattle.answers.specs.declared.answer.Answer.TheVariants as answer
+use Rattle.command_line.specs.declared.answer.Answer.{Answer}
+use Rattle.command_line.specs.declared.answer.Answer.TheVariants as answer
 use Rattle.core_run.specs.declared.outcome.Walk.{Walk}
 use Rattle.core_run.specs.declared.outcome.Walk.TheVariants as walk
-use Rattle.outcomes.specs.Faults.{CrewStops}
-use Rattle.outcomes.specs.declared.outcome.Outcome.{Outcome}
-use Rattle.outcomes.specs.declared.stop.Stop.{Stop}
-use Rattle.outcomes.specs.declared.stop.Stop.TheVariants as stop
+use Rattle.job_outcomes.specs.Faults.{CrewStops}
+use Rattle.job_outcomes.specs.declared.outcome.Outcome.{Outcome}
+use Rattle.job_outcomes.specs.declared.stop.Stop.{Stop}
+use Rattle.job_outcomes.specs.declared.stop.Stop.TheVariants as stop
 use Rattle.walk_answers.specs.Walking.{answer_of}
 use Rattle.job_runs.specs.Retold.{summary_told}
 use Rattle.job_runs.specs.Works.{IsIdle, IsOfRun, Work}

@@ -1,7 +1,7 @@
 -- Reading a log, and how it is refused.
 use Rattle.std.specs.Prelude.{◌≡◌, ℕ, List, Result, Ok, Err}
-use Rattle.answers.specs.declared.answer.Answer.{Answer}
-use Rattle.answers.specs.declared.answer.Answer.TheVariants as answer
+use Rattle.command_line.specs.declared.answer.Answer.{Answer}
+use Rattle.command_line.specs.declared.answer.Answer.TheVariants as answer
 use Rattle.order_log.specs.Log.{LogView}
 use Rattle.order_log.specs.Reading as log_text
 use Rattle.order_log.specs.declared.fault.LogFault.{LogFault}

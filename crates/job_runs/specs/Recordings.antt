@@ -1,22 +1,22 @@
 -- A recorded run of weakened code: its log, and what is told of it.
 use Rattle.std.specs.Prelude.{◌≡◌, ℕ, List, [], ◌∷◌, length, Option, Ok}
 use Rattle.std.specs.List.{AllByRecursion}
-use Rattle.access_order.specs.Orders.{AreOrdered}
-use Rattle.answers.specs.Jobs.{RecordAsked}
-use Rattle.answers.specs.declared.answer.Part.TheVariants as part
+use Rattle.happens_before.specs.Orders.{AreOrdered}
+use Rattle.command_line.specs.Jobs.{RecordAsked}
+use Rattle.command_line.specs.declared.answer.Part.TheVariants as part
 use Rattle.lock_sound.specs.Weakened.{Analysed}
 use Rattle.order_log.specs.Log.{AreWithin, LogView}
 use Rattle.order_log.specs.Text.{log_text}
-use Rattle.outcomes.specs.Puts.{Put}
-use Rattle.outcomes.specs.Steps.{IsInput}
-use Rattle.outcomes.specs.declared.outcome.Outcome.{Outcome}
+use Rattle.job_outcomes.specs.Puts.{Put}
+use Rattle.job_outcomes.specs.Steps.{IsInput}
+use Rattle.job_outcomes.specs.declared.outcome.Outcome.{Outcome}
 use Rattle.profiles.specs.declared.profile.Profile.{Profile}
 use Rattle.recorder.specs.Records.{Records}
 use Rattle.recorder.specs.declared.record.Recorded.{Recorded}
 use Rattle.sync_objects.specs.Names.{Fits}
 use Rattle.sync_objects.specs.Setup.{SetupView}
 use Rattle.sync_objects.specs.declared.entry.Entry.{Entry}
-use Rattle.thread_flow.specs.declared.access.Formula.{Formula}
+use Rattle.thread_interpreter.specs.declared.access.Formula.{Formula}
 use Rattle.walk_answers.specs.Walking.{formula_of, outcome_of}
 use Rattle.job_runs.specs.Works.{HasRun, Work}
 

@@ -1,13 +1,13 @@
 -- A recording is replayed, and both are told.
 use Rattle.std.specs.Prelude.{◌≡◌, ℕ, List, []}
-use Rattle.answers.specs.Answers.{summary_of}
-use Rattle.answers.specs.declared.answer.Answer.{Answer}
-use Rattle.answers.specs.declared.answer.Answer.TheVariants as answer
+use Rattle.command_line.specs.Answers.{summary_of}
+use Rattle.command_line.specs.declared.answer.Answer.{Answer}
+use Rattle.command_line.specs.declared.answer.Answer.TheVariants as answer
 use Rattle.core_run.specs.declared.outcome.Walk.{Walk}
 use Rattle.core_run.specs.Walks.{WalkIs}
 use Rattle.lock_sound.specs.Weakened.{Analysed}
 use Rattle.order_log.specs.Log.{LogView}
-use Rattle.outcomes.specs.declared.outcome.Outcome.{Outcome}
+use Rattle.job_outcomes.specs.declared.outcome.Outcome.{Outcome}
 use Rattle.replayer.specs.Replays.{entries_taken}
 use Rattle.walk_answers.specs.Walking.{answer_of, no_reads}
 use Rattle.job_runs.specs.Works.{HasRun, Work}

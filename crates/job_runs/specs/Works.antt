@@ -1,12 +1,12 @@
 -- What a crew does for a job, by its counts before and after.
 use Rattle.std.specs.Prelude.{◌≡◌, ℕ, Result, Ok, Err}
-use Rattle.answers.specs.declared.answer.Answer.{Answer}
-use Rattle.answers.specs.declared.answer.Answer.TheVariants as answer
+use Rattle.command_line.specs.declared.answer.Answer.{Answer}
+use Rattle.command_line.specs.declared.answer.Answer.TheVariants as answer
 use Rattle.crew.specs.Counts.{RoseAtLeast, RoseBy}
 use Rattle.crew.specs.declared.crew.Crew as Crew
-use Rattle.outcomes.specs.declared.outcome.Outcome.{Outcome}
-use Rattle.outcomes.specs.declared.stop.Stop.{Stop}
-use Rattle.outcomes.specs.declared.stop.Stop.TheVariants as stop
+use Rattle.job_outcomes.specs.declared.outcome.Outcome.{Outcome}
+use Rattle.job_outcomes.specs.declared.stop.Stop.{Stop}
+use Rattle.job_outcomes.specs.declared.stop.Stop.TheVariants as stop
 
 -- how many jobs a crew has run to their end, and how many turns it has given
 pub record Work : Type 0 where

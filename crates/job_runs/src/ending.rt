@@ -1,9 +1,9 @@
 // An outcome where memory may be wanting.
 
 ghost use Rattle.std.specs.Prelude.{◌≡◌, MatchResult, Ok};
-ghost use Rattle.outcomes.specs.declared.stop.Stop.TheVariants as stop;
+ghost use Rattle.job_outcomes.specs.declared.stop.Stop.TheVariants as stop;
 
-use outcomes::{Outcome, Stop};
+use job_outcomes::{Outcome, Stop};
 use std::alloc::AllocError;
 
 /// An outcome, or else that memory was wanting.

@@ -2,12 +2,12 @@
 
 ghost use Rattle.std.specs.Prelude.{IfErr};
 ghost use Rattle.job_runs.specs.Logs.{IsLogIn};
-ghost use Rattle.outcomes.specs.Faults.{IsPure};
-ghost use Rattle.outcomes.specs.Steps.{Finds};
+ghost use Rattle.job_outcomes.specs.Faults.{IsPure};
+ghost use Rattle.job_outcomes.specs.Steps.{Finds};
 
-use answers::Answer;
+use command_line::Answer;
 use order_log::{Log, LogFault, read_log};
-use outcomes::Stop;
+use job_outcomes::Stop;
 use std::alloc::Global;
 
 /// The log that bytes are.

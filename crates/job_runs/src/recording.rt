@@ -1,25 +1,25 @@
 // A recorded run of weakened code.
 
 ghost use Rattle.std.specs.Prelude.{◌≡◌, ◌≤◌, ◌∷◌, [], length, IfOk, MatchResult, option_map};
-ghost use Rattle.answers.specs.Jobs.{HasRecordLimits, record_told};
-ghost use Rattle.answers.specs.declared.answer.Part.TheVariants as part;
+ghost use Rattle.command_line.specs.Jobs.{HasRecordLimits, record_told};
+ghost use Rattle.command_line.specs.declared.answer.Part.TheVariants as part;
 ghost use Rattle.job_runs.specs.Recordings.{HasInput, IsLogged, IsRecorded, IsRunOf};
 ghost use Rattle.job_runs.specs.Works.{IsIdle, work_of};
 ghost use Rattle.walk_answers.specs.Walking.{outcome_of as outcome_by};
 ghost use Rattle.order_log.specs.Log.{AreWithin, HasNames};
 ghost use Rattle.order_log.specs.Text.{log_text};
-ghost use Rattle.outcomes.specs.Faults.{CrewStops, RunStops};
-ghost use Rattle.outcomes.specs.Steps.{Comes, Gives, IsInput};
+ghost use Rattle.job_outcomes.specs.Faults.{CrewStops, RunStops};
+ghost use Rattle.job_outcomes.specs.Steps.{Comes, Gives, IsInput};
 ghost use Rattle.std.specs.List.{AllByRecursion};
 ghost use Rattle.sync_objects.specs.Names.{Fits};
 
-use access_order::law_ordered;
-use answers::{Part, RecordJob};
+use happens_before::law_ordered;
+use command_line::{Part, RecordJob};
 use crew::{Crew, CrewEnd};
 use lock_sound::{Weakened, law_weakened_runs};
 use log_limits::law_log_is_within;
 use order_log::{Log, write_log};
-use outcomes::{Outcome, Put, Stop, input as whole_input};
+use job_outcomes::{Outcome, Put, Stop, input as whole_input};
 use profiles::Profile;
 use race_free::law_no_race;
 use recorder::{Recorded, record_threads};
@@ -28,7 +28,7 @@ use std::alloc::{AllocError, Global};
 use std::sync::Wait;
 use std::thread::Threads;
 use sync_objects::Setup;
-use thread_flow::Formula;
+use thread_interpreter::Formula;
 use walk_answers::{formula_of, outcome_of};
 
 /// The most bytes of an input.

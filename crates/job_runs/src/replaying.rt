@@ -5,7 +5,7 @@ ghost use Rattle.core_run.specs.declared.outcome.Walk.{Walk as WalkOf};
 ghost use Rattle.core_run.specs.Walks.{WalkIs};
 ghost use Rattle.job_runs.specs.Works.{HasRun, work_of};
 ghost use Rattle.walk_answers.specs.Walking.{formula_of as formula_by, outcome_of as outcome_by};
-ghost use Rattle.outcomes.specs.Faults.{CrewStops};
+ghost use Rattle.job_outcomes.specs.Faults.{CrewStops};
 ghost use Rattle.replayer.specs.Replays.{entries_taken};
 
 use crate::ending::or_stop;
@@ -13,14 +13,14 @@ use core_run::Walk;
 use crew::{Crew, CrewEnd};
 use lock_sound::{Weakened, law_weakened_runs};
 use order_log::Log;
-use outcomes::{Outcome, Stop};
+use job_outcomes::{Outcome, Stop};
 use race_free::law_no_race;
 use replayer::replay as follow;
 use rr_base::List;
 use std::alloc::Global;
 use std::sync::Wait;
 use std::thread::Threads;
-use thread_flow::Formula;
+use thread_interpreter::Formula;
 use walk_answers::{formula_of, outcome_of};
 
 // The walk of the log on the weakened code, whose threads follow it side by side.

@@ -1,11 +1,11 @@
 -- Why a job stops, and what the outside had been asked for then.
 use Rattle.std.proofs.Common.{◌≡◌, refl, ℕ, Result, Ok, Err}
 use Rattle.std.specs.Prelude.{IfErr, MatchResult}
-use Rattle.outcomes.specs.Endings.{MayStop}
-use Rattle.outcomes.specs.Faults.{CrewShelfStops}
-use Rattle.outcomes.specs.declared.outcome.Outcome.{Outcome}
-use Rattle.outcomes.specs.declared.stop.Stop.{Stop}
-use Rattle.outcomes.specs.declared.stop.Stop.TheVariants as stop
+use Rattle.job_outcomes.specs.Endings.{MayStop}
+use Rattle.job_outcomes.specs.Faults.{CrewShelfStops}
+use Rattle.job_outcomes.specs.declared.outcome.Outcome.{Outcome}
+use Rattle.job_outcomes.specs.declared.stop.Stop.{Stop}
+use Rattle.job_outcomes.specs.declared.stop.Stop.TheVariants as stop
 
 -- each fault comes where its part of the outside was asked for
 pub stops_by : (Shelf Input Crew : Type 0) (r : Result Outcome Stop) → Shelf → (r ≡ Err stop.InputFailed → Input) → (r ≡ Err stop.CrewFailed → Crew) → IfErr r (MayStop Shelf Input Crew)

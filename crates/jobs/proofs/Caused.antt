@@ -1,15 +1,15 @@
 -- Which cause each status has.
 use Rattle.std.proofs.Common.{◌≡◌, ◌⊎◌, inl, inr, refl, sym, ap, subst, ◌∙◌, ℕ, List, [], ◌∷◌, ◌++◌, length, Option, Some, None, Result, Ok, Err}
-use Rattle.answers.specs.Answers.{shelf_fault, status_of}
-use Rattle.answers.specs.Endings.{Writes}
-use Rattle.answers.specs.Endings.Writes.{Whole, Failed, NoMemory}
-use Rattle.answers.specs.Jobs.{Asked, RecordAsked}
-use Rattle.answers.specs.Jobs.Asked.{Races, Weaken, Record, Replay, Profile, Watch, Chain, Make}
-use Rattle.answers.specs.declared.answer.Answer.{Answer}
-use Rattle.answers.specs.declared.answer.Answer.TheVariants as answer
-use Rattle.answers.specs.declared.answer.Part.{Part}
-use Rattle.answers.specs.declared.answer.Part.TheVariants as part
-use Rattle.answers.specs.declared.event.Event.{Event}
+use Rattle.command_line.specs.Answers.{shelf_fault, status_of}
+use Rattle.command_line.specs.Endings.{Writes}
+use Rattle.command_line.specs.Endings.Writes.{Whole, Failed, NoMemory}
+use Rattle.command_line.specs.Jobs.{Asked, RecordAsked}
+use Rattle.command_line.specs.Jobs.Asked.{Races, Weaken, Record, Replay, Profile, Watch, Chain, Make}
+use Rattle.command_line.specs.declared.answer.Answer.{Answer}
+use Rattle.command_line.specs.declared.answer.Answer.TheVariants as answer
+use Rattle.command_line.specs.declared.answer.Part.{Part}
+use Rattle.command_line.specs.declared.answer.Part.TheVariants as part
+use Rattle.command_line.specs.declared.event.Event.{Event}
 use Rattle.c_tree.specs.Tree.{Outer}
 use Rattle.chain_report.specs.declared.point.Point.{Point}
 use Rattle.core_run.specs.declared.outcome.Walk.{Walk}
@@ -22,18 +22,18 @@ use Rattle.lock_sound.specs.Weakened.{Analysed}
 use Rattle.order_log.specs.Log.{LogView}
 use Rattle.order_log.specs.declared.fault.LogFault.{LogFault}
 use Rattle.order_log.specs.declared.fault.LogFault.TheVariants.{LogSyntax, LogLimit, OutOfMemory}
-use Rattle.outcomes.specs.Endings.{Ends, Finishes, Outside, shelf_of}
-use Rattle.outcomes.specs.Endings.Ends.{Found, ShelfFails, InputFails, CrewFails, WantsMemory}
-use Rattle.outcomes.specs.Endings.Finishes.{Tells, PutFails, LacksMemory as LacksForPut}
-use Rattle.outcomes.specs.Outcomes.{answers, following}
-use Rattle.outcomes.specs.Puts.{Put, PutFailed}
-use Rattle.outcomes.specs.Steps.{Comes, IsFile, IsInput, IsWithin, Then}
-use Rattle.outcomes.specs.declared.outcome.Outcome.{Outcome}
+use Rattle.job_outcomes.specs.Endings.{Ends, Finishes, Outside, shelf_of}
+use Rattle.job_outcomes.specs.Endings.Ends.{Found, ShelfFails, InputFails, CrewFails, WantsMemory}
+use Rattle.job_outcomes.specs.Endings.Finishes.{Tells, PutFails, LacksMemory as LacksForPut}
+use Rattle.job_outcomes.specs.Outcomes.{answers, following}
+use Rattle.job_outcomes.specs.Puts.{Put, PutFailed}
+use Rattle.job_outcomes.specs.Steps.{Comes, IsFile, IsInput, IsWithin, Then}
+use Rattle.job_outcomes.specs.declared.outcome.Outcome.{Outcome}
 use Rattle.recorder.specs.Records.{IsWholeWalk}
 use Rattle.rr_base.specs.Files.{Files}
 use Rattle.walk_answers.proofs.OneWalk.{one_walk}
 use Rattle.walk_answers.specs.Walking.{answer_of, formula_of, no_reads}
-use Rattle.thread_flow.specs.declared.access.Formula.{Formula}
+use Rattle.thread_interpreter.specs.declared.access.Formula.{Formula}
 use Rattle.walk_chains.specs.Telling.{lines_of}
 use Rattle.walk_hits.specs.Telling.{answer_of as hit_of, line_of}
 use Rattle.walk_profiles.specs.Profiling.{answer_of as shown_of}

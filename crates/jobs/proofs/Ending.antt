@@ -1,22 +1,22 @@
 -- How the call of a job ends.
 use Rattle.std.proofs.Common.{◌≡◌, refl, sym, ap, subst, ◌∙◌, ℕ, List, [], ◌∷◌, Option, Some, None, Err, arith}
 use Rattle.std.specs.Prelude.{option_map}
-use Rattle.answers.specs.Answers.{status_of, text_of, read_fault, crew_fault}
-use Rattle.answers.specs.Endings.{Sight, Writes}
-use Rattle.answers.specs.Endings.Writes.{Whole, Failed, NoMemory}
-use Rattle.answers.specs.Jobs.{Asked, told}
-use Rattle.answers.specs.Jobs.Asked.{Races, Weaken, Record, Replay, Profile, Watch, Chain, Make}
-use Rattle.answers.specs.declared.answer.Answer.{Answer}
-use Rattle.answers.specs.declared.answer.Answer.TheVariants as answer
-use Rattle.answers.specs.declared.job.Job.{Job}
-use Rattle.outcomes.proofs.Endings.{comes_at_once, finished, no_puts, stopped}
-use Rattle.outcomes.specs.Endings.{ComesTo, Ends, Finishes, IsFoundSo, MayStop, Outside, ShelfSight, TellsStop, shelf_of}
-use Rattle.outcomes.specs.Endings.Ends.{WantsMemory}
-use Rattle.outcomes.specs.Faults.{StopCounts}
-use Rattle.outcomes.specs.Puts.{Put}
-use Rattle.outcomes.specs.declared.outcome.Outcome.{Outcome}
-use Rattle.outcomes.specs.declared.stop.Stop.{Stop}
-use Rattle.outcomes.specs.declared.stop.Stop.TheVariants as stop
+use Rattle.command_line.specs.Answers.{status_of, text_of, read_fault, crew_fault}
+use Rattle.command_line.specs.Endings.{Sight, Writes}
+use Rattle.command_line.specs.Endings.Writes.{Whole, Failed, NoMemory}
+use Rattle.command_line.specs.Jobs.{Asked, told}
+use Rattle.command_line.specs.Jobs.Asked.{Races, Weaken, Record, Replay, Profile, Watch, Chain, Make}
+use Rattle.command_line.specs.declared.answer.Answer.{Answer}
+use Rattle.command_line.specs.declared.answer.Answer.TheVariants as answer
+use Rattle.command_line.specs.declared.job.Job.{Job}
+use Rattle.job_outcomes.proofs.Endings.{comes_at_once, finished, no_puts, stopped}
+use Rattle.job_outcomes.specs.Endings.{ComesTo, Ends, Finishes, IsFoundSo, MayStop, Outside, ShelfSight, TellsStop, shelf_of}
+use Rattle.job_outcomes.specs.Endings.Ends.{WantsMemory}
+use Rattle.job_outcomes.specs.Faults.{StopCounts}
+use Rattle.job_outcomes.specs.Puts.{Put}
+use Rattle.job_outcomes.specs.declared.outcome.Outcome.{Outcome}
+use Rattle.job_outcomes.specs.declared.stop.Stop.{Stop}
+use Rattle.job_outcomes.specs.declared.stop.Stop.TheVariants as stop
 use Rattle.rr_base.specs.Files.{Files}
 use Rattle.jobs.specs.Asks.{AsksCrew, AsksInput}
 use Rattle.jobs.specs.Jobs.{IsOutcome, PutsBefore, UsesShelf}

@@ -2,19 +2,19 @@
 use Rattle.std.proofs.Common.{◌≡◌, refl, sym, subst, ℕ, List, Result, Ok, Err}
 use Rattle.std.specs.Prelude.{IfErr, IfOk, MatchResult}
 use Rattle.std.specs.declared.alloc.AllocError.{AllocError}
-use Rattle.answers.specs.declared.answer.Answer.TheVariants as answer
+use Rattle.command_line.specs.declared.answer.Answer.TheVariants as answer
 use Rattle.c_tree.specs.Tree.{Outer}
 use Rattle.profiles.specs.declared.profile.Profile.{Profile}
 use Rattle.profiles.specs.declared.profile.Profile.TheVariants as profile
 use Rattle.listing.specs.Text.{races_text_of}
 use Rattle.listing.specs.WeakText.{weak_text_of}
 use Rattle.lock_sound.specs.Weakened.{Analysed}
-use Rattle.outcomes.specs.Faults.{IsPure}
-use Rattle.outcomes.specs.Outcomes.{answers}
-use Rattle.outcomes.specs.Steps.{Comes, Gives}
-use Rattle.outcomes.specs.declared.outcome.Outcome.{Outcome}
-use Rattle.outcomes.specs.declared.stop.Stop.{Stop}
-use Rattle.outcomes.specs.declared.stop.Stop.TheVariants as stop
+use Rattle.job_outcomes.specs.Faults.{IsPure}
+use Rattle.job_outcomes.specs.Outcomes.{answers}
+use Rattle.job_outcomes.specs.Steps.{Comes, Gives}
+use Rattle.job_outcomes.specs.declared.outcome.Outcome.{Outcome}
+use Rattle.job_outcomes.specs.declared.stop.Stop.{Stop}
+use Rattle.job_outcomes.specs.declared.stop.Stop.TheVariants as stop
 use Rattle.jobs.specs.Listings.{ListsRaces, ListsWeakLocks}
 use Rattle.jobs.specs.Sources.{Compiles, IsFound, IsTree}
 

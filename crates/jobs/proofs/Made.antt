@@ -3,7 +3,7 @@ use Rattle.std.proofs.Common.{◌≡◌, ◌≤◌, refl, sym, ap, ◌∙◌, su
 use Rattle.std.specs.Prelude.{IfOk, MatchResult, decimal, option_map}
 use Rattle.std.proofs.lemmas.Fmt.{length-decimal-le}
 use Rattle.std.proofs.lemmas.List.Sums.{sum_by-append}
-use Rattle.answers.specs.Jobs.{HasRecordLimits, RecordAsked}
+use Rattle.command_line.specs.Jobs.{HasRecordLimits, RecordAsked}
 use Rattle.core_run.specs.Histories.{run_of, HaveEnded, lists_of, entries_in}
 use Rattle.core_run.specs.Machine.{Told}
 use Rattle.core_run.specs.Walks.{WalkIs}
@@ -12,25 +12,25 @@ use Rattle.profiles.specs.declared.profile.Profile.{Profile}
 use Rattle.profiles.specs.declared.profile.Profile.TheVariants as profile
 use Rattle.lock_sound.specs.Weakened.{Analysed}
 use Rattle.order_log.specs.Log.{LogView}
-use Rattle.outcomes.proofs.Endings.{no_puts}
-use Rattle.outcomes.proofs.Putting.{failed_after, partly_after, put_both}
-use Rattle.outcomes.specs.Endings.{ComesTo, IsCutOff, IsFoundSo}
-use Rattle.outcomes.specs.Endings.IsCutOff.{NonePut, OneFailed}
-use Rattle.outcomes.specs.Ends.{stop_of}
-use Rattle.outcomes.specs.Faults.{CrewShelfStops, CrewStops, IsPure}
-use Rattle.outcomes.specs.Outcomes.{answers, following}
-use Rattle.outcomes.specs.Puts.{Put, ArePut, ArePartlyPut}
-use Rattle.outcomes.specs.declared.outcome.Outcome.{Outcome}
-use Rattle.outcomes.specs.declared.stop.Stop.{Stop}
-use Rattle.outcomes.specs.declared.stop.Stop.TheVariants as stop
+use Rattle.job_outcomes.proofs.Endings.{no_puts}
+use Rattle.job_outcomes.proofs.Putting.{failed_after, partly_after, put_both}
+use Rattle.job_outcomes.specs.Endings.{ComesTo, IsCutOff, IsFoundSo}
+use Rattle.job_outcomes.specs.Endings.IsCutOff.{NonePut, OneFailed}
+use Rattle.job_outcomes.specs.Ends.{stop_of}
+use Rattle.job_outcomes.specs.Faults.{CrewShelfStops, CrewStops, IsPure}
+use Rattle.job_outcomes.specs.Outcomes.{answers, following}
+use Rattle.job_outcomes.specs.Puts.{Put, ArePut, ArePartlyPut}
+use Rattle.job_outcomes.specs.declared.outcome.Outcome.{Outcome}
+use Rattle.job_outcomes.specs.declared.stop.Stop.{Stop}
+use Rattle.job_outcomes.specs.declared.stop.Stop.TheVariants as stop
 use Rattle.replayer.specs.Replays.{entries_taken}
 use Rattle.rr_base.specs.Faults.{ShelfFaults}
 use Rattle.rr_base.specs.Files.{Files, LeavesOthers, with_file}
 use Rattle.rr_base.specs.declared.shelf.ShelfEnd.{ShelfEnd}
 use Rattle.rr_base.specs.declared.shelf.ShelfEnd.TheVariants as shelf_end
-use Rattle.runs.specs.Labels.{Label}
-use Rattle.runs.specs.Merge.{written_merge}
-use Rattle.runs.specs.Steps.{State}
+use Rattle.run_theory.specs.Labels.{Label}
+use Rattle.run_theory.specs.Merge.{written_merge}
+use Rattle.run_theory.specs.Steps.{State}
 use Rattle.sync_objects.specs.Setup.{IsWithinLimits, SetupView}
 use Rattle.sync_objects.specs.declared.entry.Entry.{Entry}
 use Rattle.walk_answers.specs.Walking.{answer_of, no_reads, outcome_of}

@@ -1,12 +1,12 @@
 -- The outcome of a source and a log by their names.
 use Rattle.std.proofs.Common.{List, ℕ, Option, Result, Ok, Err}
-use Rattle.answers.specs.declared.answer.Part.TheVariants as part
+use Rattle.command_line.specs.declared.answer.Part.TheVariants as part
 use Rattle.c_tree.specs.Tree.{Outer}
 use Rattle.order_log.specs.Log.{LogView}
-use Rattle.outcomes.proofs.InRow.{gives_next, gives_stop}
-use Rattle.outcomes.specs.Steps.{Comes, Finds, Gives, IsFile}
-use Rattle.outcomes.specs.declared.outcome.Outcome.{Outcome}
-use Rattle.outcomes.specs.declared.stop.Stop.{Stop}
+use Rattle.job_outcomes.proofs.InRow.{gives_next, gives_stop}
+use Rattle.job_outcomes.specs.Steps.{Comes, Finds, Gives, IsFile}
+use Rattle.job_outcomes.specs.declared.outcome.Outcome.{Outcome}
+use Rattle.job_outcomes.specs.declared.stop.Stop.{Stop}
 use Rattle.rr_base.specs.Files.{Files}
 use Rattle.job_runs.specs.Logs.{IsLogIn}
 use Rattle.jobs.specs.Sources.{IsTree}

@@ -4,10 +4,10 @@ use Rattle.std.specs.Prelude.{IfOk, MatchResult}
 use Rattle.std.specs.declared.alloc.AllocError.{AllocError}
 use Rattle.c_tree.specs.Tree.{Outer}
 use Rattle.lock_sound.specs.Weakened.{Analysed}
-use Rattle.outcomes.specs.Steps.{Comes, Gives}
-use Rattle.outcomes.specs.declared.outcome.Outcome.{Outcome}
-use Rattle.outcomes.specs.declared.stop.Stop.{Stop}
-use Rattle.outcomes.specs.declared.stop.Stop.TheVariants as stop
+use Rattle.job_outcomes.specs.Steps.{Comes, Gives}
+use Rattle.job_outcomes.specs.declared.outcome.Outcome.{Outcome}
+use Rattle.job_outcomes.specs.declared.stop.Stop.{Stop}
+use Rattle.job_outcomes.specs.declared.stop.Stop.TheVariants as stop
 use Rattle.profiles.specs.declared.profile.Profile.{Profile}
 use Rattle.jobs.specs.Sources.{Compiles, IsTree}
 

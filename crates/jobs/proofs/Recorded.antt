@@ -1,24 +1,24 @@
 -- What a run leaves is a recording of its source.
 use Rattle.std.proofs.Common.{◌≡◌, ◌≤◌, refl, sym, subst, ℕ, List, Result, Ok, Err, Option, Some, length}
-use Rattle.answers.specs.Jobs.{RecordAsked, HasRecordLimits}
-use Rattle.answers.specs.declared.answer.Answer.{Answer}
-use Rattle.answers.specs.declared.answer.Part.TheVariants as part
+use Rattle.command_line.specs.Jobs.{RecordAsked, HasRecordLimits}
+use Rattle.command_line.specs.declared.answer.Answer.{Answer}
+use Rattle.command_line.specs.declared.answer.Part.TheVariants as part
 use Rattle.c_tree.specs.Tree.{Outer}
 use Rattle.core_run.specs.Histories.{run_of, HaveEnded}
 use Rattle.core_run.specs.Machine.{Told}
 use Rattle.profiles.specs.declared.profile.Profile.{Profile}
 use Rattle.job_profiles.specs.Profiles.{IsProfile, named}
 use Rattle.lock_sound.specs.Weakened.{Analysed}
-use Rattle.outcomes.proofs.InRow.{gives_next}
-use Rattle.outcomes.specs.Faults.{RunStops}
-use Rattle.outcomes.specs.Outcomes.{answers}
-use Rattle.outcomes.specs.Steps.{Comes, Gives, IsFile, IsInput, Then}
-use Rattle.outcomes.specs.declared.outcome.Outcome.{Outcome}
-use Rattle.outcomes.specs.declared.stop.Stop.{Stop}
-use Rattle.outcomes.specs.declared.stop.Stop.TheVariants as stop
+use Rattle.job_outcomes.proofs.InRow.{gives_next}
+use Rattle.job_outcomes.specs.Faults.{RunStops}
+use Rattle.job_outcomes.specs.Outcomes.{answers}
+use Rattle.job_outcomes.specs.Steps.{Comes, Gives, IsFile, IsInput, Then}
+use Rattle.job_outcomes.specs.declared.outcome.Outcome.{Outcome}
+use Rattle.job_outcomes.specs.declared.stop.Stop.{Stop}
+use Rattle.job_outcomes.specs.declared.stop.Stop.TheVariants as stop
 use Rattle.rr_base.specs.Files.{Files}
-use Rattle.runs.specs.Labels.{Label}
-use Rattle.runs.specs.Steps.{State}
+use Rattle.run_theory.specs.Labels.{Label}
+use Rattle.run_theory.specs.Steps.{State}
 use Rattle.sync_objects.specs.Setup.{SetupView, IsWithinLimits}
 use Rattle.job_runs.proofs.Recorded.{log_of, setup_within}
 use Rattle.job_runs.specs.Recordings.{setup_of, IsRecorded}

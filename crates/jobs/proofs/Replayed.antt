@@ -2,7 +2,7 @@
 use Rattle.std.proofs.Common.{◌≡◌, refl, sym, ap, subst, ◌∙◌, ◌<◌, ℕ, zero, suc, List, [], ◌∷◌, Result, Ok, Err, Option, Some}
 use Rattle.std.specs.Prelude.{IfOk, MatchResult}
 use Rattle.std.specs.List.{AllByRecursion}
-use Rattle.access_order.specs.Orders.{IsOrderedWalk}
+use Rattle.happens_before.specs.Orders.{IsOrderedWalk}
 use Rattle.c_elaborate.specs.Whole.{core_of_source}
 use Rattle.c_tree.specs.Tree.{Outer}
 use Rattle.core_run.specs.declared.outcome.Walk.{Walk}
@@ -13,18 +13,18 @@ use Rattle.flow_code.specs.declared.code.Code.{Code}
 use Rattle.front.specs.Plain.{plain_code}
 use Rattle.lock_sound.specs.Weakened.{Analysed, IsAnalysed}
 use Rattle.order_log.specs.Log.{IsEntryWithin, LogView}
-use Rattle.outcomes.specs.Faults.{CrewStops, IsPure, RefusingCrewStops}
+use Rattle.job_outcomes.specs.Faults.{CrewStops, IsPure, RefusingCrewStops}
 use Rattle.replayer.specs.Replays.{AreThreads, entries_taken}
-use Rattle.outcomes.specs.Steps.{Comes, Gives}
-use Rattle.outcomes.specs.declared.outcome.Outcome.{Outcome}
-use Rattle.outcomes.specs.declared.stop.Stop.{Stop}
-use Rattle.outcomes.specs.declared.stop.Stop.TheVariants as stop
-use Rattle.runs.specs.Steps.{State}
-use Rattle.source_runs.specs.SourceRuns.{IsSourceRun, bytes_of}
+use Rattle.job_outcomes.specs.Steps.{Comes, Gives}
+use Rattle.job_outcomes.specs.declared.outcome.Outcome.{Outcome}
+use Rattle.job_outcomes.specs.declared.stop.Stop.{Stop}
+use Rattle.job_outcomes.specs.declared.stop.Stop.TheVariants as stop
+use Rattle.run_theory.specs.Steps.{State}
+use Rattle.lowering_simulation.specs.SourceRuns.{IsSourceRun, bytes_of}
 use Rattle.sync_objects.specs.Setup.{SetupView}
 use Rattle.sync_objects.specs.declared.entry.Entry.{Entry}
 use Rattle.weak_code.specs.Weakened.{weakened}
-use Rattle.weak_facts.specs.Ranges.{ranges_of}
+use Rattle.weak_lock_facts.specs.Ranges.{ranges_of}
 use Rattle.walk_answers.specs.Walking.{formula_of, outcome_of}
 use Rattle.jobs.specs.Replays.{Replays}
 use Rattle.jobs.specs.Sources.{Compiles, IsSourceWalk, IsTree, WalksAsSource}

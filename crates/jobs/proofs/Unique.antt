@@ -1,12 +1,12 @@
 -- Files and words have one outcome.
 use Rattle.std.proofs.Common.{◌≡◌, ℕ, List, [], ◌∷◌, ◌++◌, Option, Some, None, Result, Ok, Err, refl, sym, ◌∙◌, ap, subst, arith}
-use Rattle.answers.specs.Jobs.{RecordAsked}
-use Rattle.answers.specs.Jobs.Asked.{Races, Weaken, Record, Replay, Profile, Watch, Chain, Make}
-use Rattle.answers.specs.declared.answer.Answer.{Answer}
-use Rattle.answers.specs.declared.answer.Answer.TheVariants as answer
-use Rattle.answers.specs.declared.answer.Part.{Part}
-use Rattle.answers.specs.declared.answer.Part.TheVariants as part
-use Rattle.answers.specs.declared.event.Event.{Event}
+use Rattle.command_line.specs.Jobs.{RecordAsked}
+use Rattle.command_line.specs.Jobs.Asked.{Races, Weaken, Record, Replay, Profile, Watch, Chain, Make}
+use Rattle.command_line.specs.declared.answer.Answer.{Answer}
+use Rattle.command_line.specs.declared.answer.Answer.TheVariants as answer
+use Rattle.command_line.specs.declared.answer.Part.{Part}
+use Rattle.command_line.specs.declared.answer.Part.TheVariants as part
+use Rattle.command_line.specs.declared.event.Event.{Event}
 use Rattle.c_tree.specs.Tree.{Outer}
 use Rattle.chain_report.specs.declared.point.Point.{Point}
 use Rattle.core_run.specs.Walks.{WalkIs}
@@ -24,14 +24,14 @@ use Rattle.order_log.proofs.Only.{log_at-only}
 use Rattle.order_log.specs.Log.{LogView}
 use Rattle.order_log.specs.declared.fault.LogFault.{LogFault}
 use Rattle.order_log.specs.declared.fault.LogFault.TheVariants.{LogSyntax, LogLimit, OutOfMemory}
-use Rattle.outcomes.specs.Outcomes.{answers, following}
-use Rattle.outcomes.specs.Steps.{Comes, IsFile, IsInput, IsWithin, Then}
-use Rattle.outcomes.specs.declared.outcome.Outcome.{Outcome}
+use Rattle.job_outcomes.specs.Outcomes.{answers, following}
+use Rattle.job_outcomes.specs.Steps.{Comes, IsFile, IsInput, IsWithin, Then}
+use Rattle.job_outcomes.specs.declared.outcome.Outcome.{Outcome}
 use Rattle.profile_book.proofs.OneAnswer.{one_answer}
 use Rattle.rr_base.specs.Files.{Files}
 use Rattle.sync_objects.specs.Setup.{IsWithinLimits}
 use Rattle.walk_answers.proofs.OneWalk.{one_walk}
-use Rattle.thread_flow.specs.declared.access.Formula.{Formula}
+use Rattle.thread_interpreter.specs.declared.access.Formula.{Formula}
 use Rattle.walk_chains.proofs.One.{one_chain}
 use Rattle.walk_chains.specs.Telling.{TellsChain}
 use Rattle.walk_hits.proofs.One.{one_hit}

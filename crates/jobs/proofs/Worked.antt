@@ -1,16 +1,16 @@
 -- When the crew has done nothing.
 use Rattle.std.proofs.Common.{◌≡◌, ◌⊎◌, inl, inr, refl, sym, ap, subst, ℕ, List, [], length, Option, Some, Result, Ok, Err}
-use Rattle.answers.specs.declared.answer.Answer.{Answer}
-use Rattle.answers.specs.Jobs.{Asked}
+use Rattle.command_line.specs.declared.answer.Answer.{Answer}
+use Rattle.command_line.specs.Jobs.{Asked}
 use Rattle.c_tree.specs.Tree.{Outer}
-use Rattle.outcomes.proofs.Endings.{comes_at_once}
-use Rattle.outcomes.specs.Endings.{ComesTo, IsFoundSo}
-use Rattle.outcomes.specs.Outcomes.{answers}
-use Rattle.outcomes.specs.Puts.{Put}
-use Rattle.outcomes.specs.Steps.{Gives}
-use Rattle.outcomes.specs.declared.outcome.Outcome.{Outcome}
-use Rattle.outcomes.specs.declared.stop.Stop.{Stop}
-use Rattle.outcomes.specs.declared.stop.Stop.TheVariants as stop
+use Rattle.job_outcomes.proofs.Endings.{comes_at_once}
+use Rattle.job_outcomes.specs.Endings.{ComesTo, IsFoundSo}
+use Rattle.job_outcomes.specs.Outcomes.{answers}
+use Rattle.job_outcomes.specs.Puts.{Put}
+use Rattle.job_outcomes.specs.Steps.{Gives}
+use Rattle.job_outcomes.specs.declared.outcome.Outcome.{Outcome}
+use Rattle.job_outcomes.specs.declared.stop.Stop.{Stop}
+use Rattle.job_outcomes.specs.declared.stop.Stop.TheVariants as stop
 use Rattle.rr_base.specs.Files.{Files}
 use Rattle.workload.specs.Program.{program_text}
 use Rattle.jobs.specs.Jobs.{IsOutcome, IsOutcomeOf, PutsBefore, RunsThreads}

@@ -1,14 +1,14 @@
 -- How far a job comes before it reads the input or has threads run: as far as nothing of what it reads until then is refused.
 use Rattle.std.specs.Prelude.{ℕ, List, Option, Some, None, Ok}
-use Rattle.answers.specs.Jobs.{Asked}
-use Rattle.answers.specs.Jobs.Asked.{Record, Replay, Make}
-use Rattle.answers.specs.declared.answer.Part.TheVariants as part
+use Rattle.command_line.specs.Jobs.{Asked}
+use Rattle.command_line.specs.Jobs.Asked.{Record, Replay, Make}
+use Rattle.command_line.specs.declared.answer.Part.TheVariants as part
 use Rattle.c_tree.specs.Tree.{Outer}
 use Rattle.job_profiles.specs.Profiles.{IsProfile}
 use Rattle.job_runs.specs.Logs.{IsLogIn}
 use Rattle.job_runs.specs.Recordings.{HasInput}
 use Rattle.order_log.specs.Log.{LogView}
-use Rattle.outcomes.specs.Steps.{IsFile}
+use Rattle.job_outcomes.specs.Steps.{IsFile}
 use Rattle.profiles.specs.declared.profile.Profile.{Profile}
 use Rattle.rr_base.specs.Files.{Files}
 use Rattle.workload.specs.Program.{program_text}

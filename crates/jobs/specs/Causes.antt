@@ -1,21 +1,21 @@
 -- Which cause each status has, on files and an input that are told.
 use Rattle.std.specs.Prelude.{◌≡◌, ◌≢◌, ℕ, List, Option, Some, None, Result, Ok, Err}
-use Rattle.answers.specs.Answers.{status_of}
-use Rattle.answers.specs.Jobs.{Asked}
-use Rattle.answers.specs.Jobs.Asked.{Races, Weaken, Record, Replay, Profile, Watch, Chain, Make}
-use Rattle.answers.specs.declared.answer.Answer.{Answer}
-use Rattle.answers.specs.declared.answer.Answer.TheVariants as answer
-use Rattle.answers.specs.declared.answer.Part.TheVariants as part
+use Rattle.command_line.specs.Answers.{status_of}
+use Rattle.command_line.specs.Jobs.{Asked}
+use Rattle.command_line.specs.Jobs.Asked.{Races, Weaken, Record, Replay, Profile, Watch, Chain, Make}
+use Rattle.command_line.specs.declared.answer.Answer.{Answer}
+use Rattle.command_line.specs.declared.answer.Answer.TheVariants as answer
+use Rattle.command_line.specs.declared.answer.Part.TheVariants as part
 use Rattle.c_tree.specs.Tree.{Outer}
 use Rattle.core_run.specs.Walks.{WalkIs}
-use Rattle.thread_flow.specs.declared.access.Formula.{Formula}
+use Rattle.thread_interpreter.specs.declared.access.Formula.{Formula}
 use Rattle.core_run.specs.declared.outcome.Walk.{Walk}
 use Rattle.profiles.specs.declared.profile.Profile.{Profile as ProfileOf}
 use Rattle.job_profiles.specs.Profiles.{IsProfile}
 use Rattle.lock_sound.specs.Weakened.{Analysed}
 use Rattle.order_log.specs.Log.{LogView}
-use Rattle.outcomes.specs.Endings.{Outside}
-use Rattle.outcomes.specs.Steps.{IsFile, IsInput}
+use Rattle.job_outcomes.specs.Endings.{Outside}
+use Rattle.job_outcomes.specs.Steps.{IsFile, IsInput}
 use Rattle.rr_base.specs.Faults.{Rose}
 use Rattle.rr_base.specs.Files.{Files}
 use Rattle.walk_answers.specs.Walking.{answer_of, formula_of, no_reads}

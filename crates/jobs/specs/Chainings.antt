@@ -1,11 +1,11 @@
 -- What orders two accesses of a log's run.
 use Rattle.std.specs.Prelude.{List}
-use Rattle.answers.specs.declared.event.Event.{Event}
+use Rattle.command_line.specs.declared.event.Event.{Event}
 use Rattle.c_tree.specs.Tree.{Outer}
 use Rattle.chain_report.specs.declared.point.Point.{Point}
 use Rattle.lock_sound.specs.Weakened.{Analysed}
 use Rattle.order_log.specs.Log.{LogView}
-use Rattle.outcomes.specs.declared.outcome.Outcome.{Outcome}
+use Rattle.job_outcomes.specs.declared.outcome.Outcome.{Outcome}
 use Rattle.walk_chains.specs.Telling.{TellsChain}
 use Rattle.jobs.specs.Sources.{IsFound, WalksAsSource}
 

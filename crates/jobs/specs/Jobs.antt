@@ -1,17 +1,17 @@
 -- The outcomes that each job may have on the files of a shelf and an input, where these tell what they hold: step by step, in the
 -- order in which a refusal comes.
 use Rattle.std.specs.Prelude.{◌≡◌, ℕ, Bool, nat_le, List, [], Option, Some, None}
-use Rattle.answers.specs.Jobs.{Asked, RecordAsked}
-use Rattle.answers.specs.Jobs.Asked.{Races, Weaken, Record, Replay, Profile, Watch, Chain, Make}
-use Rattle.answers.specs.declared.answer.Answer.TheVariants as answer
-use Rattle.answers.specs.declared.answer.Part.TheVariants as part
-use Rattle.answers.specs.declared.event.Event.{Event}
-use Rattle.outcomes.specs.Outcomes.{answers}
-use Rattle.outcomes.specs.Puts.{Put}
-use Rattle.outcomes.specs.Steps.{Comes, IsFile, IsInput}
-use Rattle.outcomes.specs.declared.outcome.Outcome.{Outcome}
+use Rattle.command_line.specs.Jobs.{Asked, RecordAsked}
+use Rattle.command_line.specs.Jobs.Asked.{Races, Weaken, Record, Replay, Profile, Watch, Chain, Make}
+use Rattle.command_line.specs.declared.answer.Answer.TheVariants as answer
+use Rattle.command_line.specs.declared.answer.Part.TheVariants as part
+use Rattle.command_line.specs.declared.event.Event.{Event}
+use Rattle.job_outcomes.specs.Outcomes.{answers}
+use Rattle.job_outcomes.specs.Puts.{Put}
+use Rattle.job_outcomes.specs.Steps.{Comes, IsFile, IsInput}
+use Rattle.job_outcomes.specs.declared.outcome.Outcome.{Outcome}
 use Rattle.rr_base.specs.Files.{Files}
-use Rattle.thread_flow.specs.declared.access.Formula.{Formula}
+use Rattle.thread_interpreter.specs.declared.access.Formula.{Formula}
 use Rattle.jobs.specs.Chainings.{OrdersLog, point_of}
 use Rattle.jobs.specs.Listings.{ListsRaces, ListsWeakLocks}
 use Rattle.job_profiles.specs.Profiles.{IsProfile, named}

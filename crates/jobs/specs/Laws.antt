@@ -1,8 +1,8 @@
 -- How far files and words determine an outcome, and which status has which cause.
 use Rattle.std.specs.Prelude.{◌≡◌, ℕ, List, Option, Some}
-use Rattle.answers.specs.Jobs.{Asked}
-use Rattle.outcomes.specs.Endings.{Ends, Outside}
-use Rattle.outcomes.specs.declared.outcome.Outcome.{Outcome}
+use Rattle.command_line.specs.Jobs.{Asked}
+use Rattle.job_outcomes.specs.Endings.{Ends, Outside}
+use Rattle.job_outcomes.specs.declared.outcome.Outcome.{Outcome}
 use Rattle.rr_base.specs.Files.{Files}
 use Rattle.jobs.specs.Causes.{CauseOf, IsDecided, WentWell}
 use Rattle.jobs.specs.Asks.{AsksCrew, AsksInput}

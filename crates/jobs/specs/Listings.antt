@@ -1,14 +1,14 @@
 -- The listings of a source: of its race pairs, and of its weak locks.
 use Rattle.std.specs.Prelude.{◌≡◌, List}
-use Rattle.answers.specs.declared.answer.Answer.TheVariants as answer
+use Rattle.command_line.specs.declared.answer.Answer.TheVariants as answer
 use Rattle.c_tree.specs.Tree.{Outer}
 use Rattle.profiles.specs.declared.profile.Profile.{Profile}
 use Rattle.profiles.specs.declared.profile.Profile.TheVariants as profile
 use Rattle.listing.specs.Text.{races_text_of}
 use Rattle.listing.specs.WeakText.{weak_text_of}
 use Rattle.lock_sound.specs.Weakened.{Analysed}
-use Rattle.outcomes.specs.Outcomes.{answers}
-use Rattle.outcomes.specs.declared.outcome.Outcome.{Outcome}
+use Rattle.job_outcomes.specs.Outcomes.{answers}
+use Rattle.job_outcomes.specs.declared.outcome.Outcome.{Outcome}
 use Rattle.jobs.specs.Sources.{IsFound}
 
 -- the listing of the race pairs, which are the same for every profile

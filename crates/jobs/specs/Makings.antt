@@ -1,13 +1,13 @@
 -- A large source is made and put, recorded, and replayed by its log.
 use Rattle.std.specs.Prelude.{◌≡◌, ℕ, List, [], ◌∷◌, ◌++◌, length, None, Ok, codes}
-use Rattle.answers.specs.Jobs.{RecordAsked}
+use Rattle.command_line.specs.Jobs.{RecordAsked}
 use Rattle.c_tree.specs.Tree.{Outer}
 use Rattle.profiles.specs.declared.profile.Profile.TheVariants as profile
 use Rattle.order_log.specs.Log.{LogView}
-use Rattle.outcomes.specs.Outcomes.{following}
-use Rattle.outcomes.specs.Puts.{Put}
-use Rattle.outcomes.specs.Steps.{Comes}
-use Rattle.outcomes.specs.declared.outcome.Outcome.{Outcome}
+use Rattle.job_outcomes.specs.Outcomes.{following}
+use Rattle.job_outcomes.specs.Puts.{Put}
+use Rattle.job_outcomes.specs.Steps.{Comes}
+use Rattle.job_outcomes.specs.declared.outcome.Outcome.{Outcome}
 use Rattle.sync_objects.specs.declared.entry.Entry.{Entry}
 use Rattle.workload.specs.Program.{program_text}
 use Rattle.job_runs.specs.Recordings.{log_of}

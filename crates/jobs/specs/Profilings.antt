@@ -3,7 +3,7 @@ use Rattle.std.specs.Prelude.{ℕ, List}
 use Rattle.c_tree.specs.Tree.{Outer}
 use Rattle.lock_sound.specs.Weakened.{Analysed}
 use Rattle.order_log.specs.Log.{LogView}
-use Rattle.outcomes.specs.declared.outcome.Outcome.{Outcome}
+use Rattle.job_outcomes.specs.declared.outcome.Outcome.{Outcome}
 use Rattle.walk_profiles.specs.Profiling.{ShowsProfile}
 use Rattle.jobs.specs.Sources.{IsFound, WalksAsSource}
 

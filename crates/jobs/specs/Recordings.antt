@@ -1,14 +1,14 @@
 -- A recorded run of a source.
 use Rattle.std.specs.Prelude.{◌≡◌, ℕ, List, [], ◌∷◌, length}
-use Rattle.answers.specs.Jobs.{RecordAsked}
+use Rattle.command_line.specs.Jobs.{RecordAsked}
 use Rattle.c_tree.specs.Tree.{Outer}
 use Rattle.core_run.specs.declared.outcome.Walk.{Walk}
 use Rattle.profiles.specs.declared.profile.Profile.{Profile}
 use Rattle.lock_sound.specs.Weakened.{Analysed}
-use Rattle.outcomes.specs.declared.outcome.Outcome.{Outcome}
+use Rattle.job_outcomes.specs.declared.outcome.Outcome.{Outcome}
 use Rattle.recorder.specs.Records.{Records}
 use Rattle.sync_objects.specs.declared.entry.Entry.{Entry}
-use Rattle.access_order.specs.Orders.{AreOrdered}
+use Rattle.happens_before.specs.Orders.{AreOrdered}
 use Rattle.job_runs.specs.Recordings.{log_put, setup_of}
 use Rattle.job_runs.specs.Works.{HasRun, Work}
 use Rattle.jobs.specs.Sources.{IsFound, IsSourceWalk}

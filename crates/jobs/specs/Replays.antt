@@ -5,7 +5,7 @@ use Rattle.core_run.specs.declared.outcome.Walk.{Walk}
 use Rattle.core_run.specs.Walks.{WalkIs}
 use Rattle.lock_sound.specs.Weakened.{Analysed}
 use Rattle.order_log.specs.Log.{LogView}
-use Rattle.outcomes.specs.declared.outcome.Outcome.{Outcome}
+use Rattle.job_outcomes.specs.declared.outcome.Outcome.{Outcome}
 use Rattle.replayer.specs.Replays.{entries_taken}
 use Rattle.job_runs.specs.Works.{HasRun, Work}
 use Rattle.jobs.specs.Sources.{IsFound, WalksAsSource}

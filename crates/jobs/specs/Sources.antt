@@ -1,8 +1,8 @@
 -- Reading a source, and what its code is.
 use Rattle.std.specs.Prelude.{◌≡◌, ℕ, List, Result, Ok, Err, Some}
-use Rattle.access_order.specs.Orders.{IsOrderedWalk}
-use Rattle.answers.specs.declared.answer.Answer.{Answer}
-use Rattle.answers.specs.declared.answer.Answer.TheVariants as answer
+use Rattle.happens_before.specs.Orders.{IsOrderedWalk}
+use Rattle.command_line.specs.declared.answer.Answer.{Answer}
+use Rattle.command_line.specs.declared.answer.Answer.TheVariants as answer
 use Rattle.c_elaborate.specs.Whole.{core_of_source}
 use Rattle.c_tree.specs.Tree.{Outer}
 use Rattle.core_run.specs.Histories.{HaveEnded, entries_in, lists_of, run_of}
@@ -16,12 +16,12 @@ use Rattle.front.specs.Plain.{plain_code}
 use Rattle.front.specs.Readings.{sound, refused, IsReading}
 use Rattle.front.specs.declared.reading.SourceFault.{SourceFault}
 use Rattle.lock_sound.specs.Weakened.{Analysed, IsAnalysed}
-use Rattle.outcomes.specs.declared.stop.Stop.{Stop}
-use Rattle.outcomes.specs.declared.stop.Stop.TheVariants as stop
-use Rattle.runs.specs.Labels.{Label}
-use Rattle.runs.specs.Merge.{written_merge}
-use Rattle.runs.specs.Steps.{State}
-use Rattle.source_runs.specs.SourceRuns.{IsSourceRun, bytes_of}
+use Rattle.job_outcomes.specs.declared.stop.Stop.{Stop}
+use Rattle.job_outcomes.specs.declared.stop.Stop.TheVariants as stop
+use Rattle.run_theory.specs.Labels.{Label}
+use Rattle.run_theory.specs.Merge.{written_merge}
+use Rattle.run_theory.specs.Steps.{State}
+use Rattle.lowering_simulation.specs.SourceRuns.{IsSourceRun, bytes_of}
 use Rattle.sync_objects.specs.Setup.{IsWithinLimits, SetupView}
 use Rattle.sync_objects.specs.declared.entry.Entry.{Entry}
 

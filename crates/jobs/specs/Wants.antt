@@ -1,10 +1,10 @@
 -- That a name is wanting which a job asks the shelf for, in the order of work.
 use Rattle.std.specs.Prelude.{ℕ, List, ◌⊎◌, Option, Some, None, Ok}
-use Rattle.answers.specs.Jobs.{Asked}
-use Rattle.answers.specs.Jobs.Asked.{Races, Weaken, Record, Replay, Profile, Watch, Chain, Make}
-use Rattle.answers.specs.declared.answer.Part.TheVariants as part
+use Rattle.command_line.specs.Jobs.{Asked}
+use Rattle.command_line.specs.Jobs.Asked.{Races, Weaken, Record, Replay, Profile, Watch, Chain, Make}
+use Rattle.command_line.specs.declared.answer.Part.TheVariants as part
 use Rattle.job_profiles.specs.Profiles.{LacksProfile}
-use Rattle.outcomes.specs.Steps.{IsFile, Lacks}
+use Rattle.job_outcomes.specs.Steps.{IsFile, Lacks}
 use Rattle.rr_base.specs.Files.{Files}
 
 -- its source isn't held; or it is, and a later name isn't

@@ -3,8 +3,8 @@ use Rattle.std.specs.Prelude.{List}
 use Rattle.c_tree.specs.Tree.{Outer}
 use Rattle.lock_sound.specs.Weakened.{Analysed}
 use Rattle.order_log.specs.Log.{LogView}
-use Rattle.outcomes.specs.declared.outcome.Outcome.{Outcome}
-use Rattle.thread_flow.specs.declared.access.Formula.{Formula}
+use Rattle.job_outcomes.specs.declared.outcome.Outcome.{Outcome}
+use Rattle.thread_interpreter.specs.declared.access.Formula.{Formula}
 use Rattle.walk_hits.specs.Telling.{TellsHit}
 use Rattle.jobs.specs.Sources.{IsFound, WalksAsSource}
 

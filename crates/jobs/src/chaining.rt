@@ -5,21 +5,21 @@ ghost use Rattle.jobs.specs.Chainings as spec;
 ghost use Rattle.jobs.specs.Chainings.{OrdersLog};
 ghost use Rattle.jobs.specs.Jobs.{IsChaining};
 ghost use Rattle.jobs.specs.Sources.{IsTree};
-ghost use Rattle.outcomes.specs.Faults.{IsPure, ShelfStops};
+ghost use Rattle.job_outcomes.specs.Faults.{IsPure, ShelfStops};
 ghost use Rattle.jobs.specs.Wants.{LacksEither};
-ghost use Rattle.outcomes.specs.Steps.{Comes, Gives, Lacks};
+ghost use Rattle.job_outcomes.specs.Steps.{Comes, Gives, Lacks};
 
 use crate::replaying::LOG_BYTES;
 use crate::sources::{SOURCE_BYTES, compiled};
-use access_order::law_ordered_walk;
-use answers::{Event, Part};
+use happens_before::law_ordered_walk;
+use command_line::{Event, Part};
 use chain_report::Point;
 use job_runs::{log_in, or_stop};
 use order_log::Log;
-use outcomes::{Keeper, Outcome, Stop, file};
+use job_outcomes::{Keeper, Outcome, Stop, file};
 use rr_base::Bytes;
 use std::alloc::Global;
-use text_runs::law_text_erased_walk;
+use compile_correct::law_text_erased_walk;
 use walk_chains::told_chain;
 
 // The point of a log at which an event is made.

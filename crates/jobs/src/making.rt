@@ -1,31 +1,31 @@
 // A large source is made, put, recorded and replayed.
 
 ghost use Rattle.std.specs.Prelude.{◌≡◌, ◌≢◌, ◌≤◌, ◌^◌, [], ◌∷◌, ◌++◌, codes, length, string_bytes, Option, IfOk, MatchResult};
-ghost use Rattle.answers.specs.Jobs.{record_told};
+ghost use Rattle.command_line.specs.Jobs.{record_told};
 ghost use Rattle.jobs.specs.Asks.{HasTree};
 ghost use Rattle.jobs.specs.Makings as spec;
 ghost use Rattle.profiles.specs.declared.profile.Profile.TheVariants as profile;
 ghost use Rattle.jobs.specs.Sources.{Compiles, RunsAsSource};
 ghost use Rattle.job_runs.specs.Works.{IsIdle, work_of};
-ghost use Rattle.outcomes.specs.Endings.{ComesTo};
-ghost use Rattle.outcomes.specs.Faults.{CrewShelfStops};
-ghost use Rattle.outcomes.specs.Puts.{ArePut};
+ghost use Rattle.job_outcomes.specs.Endings.{ComesTo};
+ghost use Rattle.job_outcomes.specs.Faults.{CrewShelfStops};
+ghost use Rattle.job_outcomes.specs.Puts.{ArePut};
 ghost use Rattle.rr_base.specs.Files.{Files};
 ghost use Rattle.workload.specs.Program.{program_text};
 
 use crate::sources::compiled;
-use access_order::law_ordered_walk;
-use answers::RecordJob;
+use happens_before::law_ordered_walk;
+use command_line::RecordJob;
 use crew::Crew;
 use job_runs::{recorded_on, replayed_log};
 use lock_sound::Weakened;
-use outcomes::{Keeper, Outcome, Stop};
+use job_outcomes::{Keeper, Outcome, Stop};
 use profiles::Profile;
 use rr_base::List;
 use std::alloc::{AllocError, Global};
 use std::sync::Wait;
 use std::thread::Threads;
-use text_runs::{law_text_erased_walk, law_text_log};
+use compile_correct::{law_text_erased_walk, law_text_log};
 use workload::program_of;
 
 // The name of a made source's log.

@@ -1,21 +1,21 @@
 // The race listing of a source.
 
 ghost use Rattle.std.specs.Prelude.{◌≡◌, ◌≤◌, ◌^◌, length, IfErr, IfOk, MatchResult};
-ghost use Rattle.answers.specs.declared.answer.Answer.TheVariants as answer;
+ghost use Rattle.command_line.specs.declared.answer.Answer.TheVariants as answer;
 ghost use Rattle.jobs.specs.Jobs.{IsRaces};
 ghost use Rattle.jobs.specs.Listings.{ListsRaces};
 ghost use Rattle.jobs.specs.Sources.{IsTree};
-ghost use Rattle.outcomes.specs.Faults.{IsPure, ShelfStops};
+ghost use Rattle.job_outcomes.specs.Faults.{IsPure, ShelfStops};
 ghost use Rattle.listing.specs.Text.{races_text_of};
-ghost use Rattle.outcomes.specs.Outcomes.{answers};
-ghost use Rattle.outcomes.specs.Steps.{Comes, Gives, Lacks};
+ghost use Rattle.job_outcomes.specs.Outcomes.{answers};
+ghost use Rattle.job_outcomes.specs.Steps.{Comes, Gives, Lacks};
 
 use crate::sources::{SOURCE_BYTES, compiled};
-use answers::{Answer, Part};
+use command_line::{Answer, Part};
 use job_runs::or_stop;
 use listing::races_text;
 use lock_sound::Weakened;
-use outcomes::{Keeper, Outcome, Stop, file};
+use job_outcomes::{Keeper, Outcome, Stop, file};
 use profiles::Profile;
 use std::alloc::{AllocError, Global};
 

@@ -1,9 +1,9 @@
 // A recorded run of a source.
 
 ghost use Rattle.std.specs.Prelude.{◌≡◌, ◌≤◌, ◌^◌, length, MatchResult, Some};
-ghost use Rattle.answers.specs.Jobs.{HasRecordLimits, record_told};
-ghost use Rattle.answers.specs.Jobs.Asked.{Record};
-ghost use Rattle.answers.specs.declared.answer.Part.TheVariants as part;
+ghost use Rattle.command_line.specs.Jobs.{HasRecordLimits, record_told};
+ghost use Rattle.command_line.specs.Jobs.Asked.{Record};
+ghost use Rattle.command_line.specs.declared.answer.Part.TheVariants as part;
 ghost use Rattle.job_runs.specs.Recordings.{HasInput};
 ghost use Rattle.job_runs.specs.Works.{IsIdle, work_of};
 ghost use Rattle.jobs.specs.Asks.{AsksCrew, AsksInput, HasTree};
@@ -13,22 +13,22 @@ ghost use Rattle.jobs.specs.Sources.{IsTree};
 ghost use Rattle.jobs.specs.Wants.{LacksEither};
 ghost use Rattle.job_profiles.specs.Profiles.{LacksProfile};
 ghost use Rattle.order_log.specs.Log.{HasNames};
-ghost use Rattle.outcomes.specs.Faults.{RunStops, StopCounts};
-ghost use Rattle.outcomes.specs.Steps.{Comes, Gives, IsInput};
+ghost use Rattle.job_outcomes.specs.Faults.{RunStops, StopCounts};
+ghost use Rattle.job_outcomes.specs.Steps.{Comes, Gives, IsInput};
 
 use crate::sources::{SOURCE_BYTES, compiled};
-use access_order::law_ordered_walk;
-use answers::{Part, RecordJob};
+use happens_before::law_ordered_walk;
+use command_line::{Part, RecordJob};
 use crew::Crew;
 use job_profiles::{named, profile_of};
 use job_runs::recorded_code;
-use outcomes::{Keeper, Outcome, Stop, file};
+use job_outcomes::{Keeper, Outcome, Stop, file};
 use profiles::Profile;
 use rr_base::Source;
 use std::alloc::Global;
 use std::sync::Wait;
 use std::thread::Threads;
-use text_runs::law_text_log;
+use compile_correct::law_text_log;
 
 // The outcome of a source's bytes for this profile.
 fn recorded<'a, R: Threads + Wait + Sync, I: Source, C: Crew>(

@@ -6,22 +6,22 @@ ghost use Rattle.jobs.specs.Asks.{HasLog, HasSource, HasTree};
 ghost use Rattle.jobs.specs.Jobs.{IsReplay};
 ghost use Rattle.jobs.specs.Replays.{Replays};
 ghost use Rattle.jobs.specs.Sources.{IsTree};
-ghost use Rattle.outcomes.specs.Faults.{CrewShelfStops, RefusingCrewStops};
+ghost use Rattle.job_outcomes.specs.Faults.{CrewShelfStops, RefusingCrewStops};
 ghost use Rattle.jobs.specs.Wants.{LacksEither};
-ghost use Rattle.outcomes.specs.Steps.{Comes, Gives, Lacks};
+ghost use Rattle.job_outcomes.specs.Steps.{Comes, Gives, Lacks};
 
 use crate::sources::{SOURCE_BYTES, compiled};
-use access_order::law_ordered_walk;
-use answers::Part;
+use happens_before::law_ordered_walk;
+use command_line::Part;
 use crew::Crew;
 use job_runs::{log_in, told_walk};
 use order_log::Log;
-use outcomes::{Keeper, Outcome, Stop, file};
+use job_outcomes::{Keeper, Outcome, Stop, file};
 use rr_base::Bytes;
 use std::alloc::Global;
 use std::sync::Wait;
 use std::thread::Threads;
-use text_runs::law_text_erased_walk;
+use compile_correct::law_text_erased_walk;
 
 /// The most bytes of a log.
 pub(crate) const LOG_BYTES: u32 = 536_870_912;

@@ -2,12 +2,12 @@
 
 ghost use Rattle.std.specs.Prelude.{◌≡◌, ◌≤◌, ◌^◌, length};
 ghost use Rattle.jobs.specs.Sources.{Compiles};
-ghost use Rattle.answers.specs.declared.answer.Answer.TheVariants as answer;
+ghost use Rattle.command_line.specs.declared.answer.Answer.TheVariants as answer;
 
-use answers::Answer;
+use command_line::Answer;
 use front::{CompileFault, SourceFault, compile};
 use lock_sound::Weakened;
-use outcomes::Stop;
+use job_outcomes::Stop;
 use profiles::Profile;
 use std::alloc::Global;
 

@@ -1,13 +1,13 @@
 // The whole call: from words to the files that are put, what is written, and the status.
 
 ghost use Rattle.std.specs.Prelude.{◌≡◌, map, string_bytes, option_map, IfErr, IfSome, IsTrue, MatchResult, Some};
-ghost use Rattle.answers.specs.Jobs.{HasLimits, job_of as job_by, told};
+ghost use Rattle.command_line.specs.Jobs.{HasLimits, job_of as job_by, told};
 ghost use Rattle.jobs.specs.Asks.{AsksCrew, AsksInput};
 ghost use Rattle.jobs.specs.Jobs.{IsOutcome, PutsBefore, UsesShelf, is_status};
 ghost use Rattle.jobs.specs.Wants.{LacksFile};
 ghost use Rattle.job_runs.specs.Works.{work_of};
-ghost use Rattle.outcomes.specs.Endings.{ComesTo, Ends, MayStop};
-ghost use Rattle.outcomes.specs.Faults.{StopCounts};
+ghost use Rattle.job_outcomes.specs.Endings.{ComesTo, Ends, MayStop};
+ghost use Rattle.job_outcomes.specs.Faults.{StopCounts};
 ghost use Rattle.rr_base.specs.Faults.{Rose};
 
 use crate::chaining::chain_log;
@@ -18,9 +18,9 @@ use crate::recording::record_source;
 use crate::replaying::replay;
 use crate::watching::watch_log;
 use crate::weak_locks::weak_locks;
-use answers::{Answer, Job, job_of, tell_answer};
+use command_line::{Answer, Job, job_of, tell_answer};
 use crew::Crew;
-use outcomes::{Keeper, Outcome, Stop, finish, tell_stop};
+use job_outcomes::{Keeper, Outcome, Stop, finish, tell_stop};
 use rr_base::{Sink, Source};
 use std::alloc::{AllocError, Global};
 use std::sync::Wait;

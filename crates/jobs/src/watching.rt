@@ -3,24 +3,24 @@
 ghost use Rattle.std.specs.Prelude.{◌≡◌, ◌≤◌, ◌^◌, length, IfErr, IfOk, MatchResult};
 ghost use Rattle.jobs.specs.Jobs.{IsWatching};
 ghost use Rattle.jobs.specs.Sources.{IsTree};
-ghost use Rattle.outcomes.specs.Faults.{IsPure, ShelfStops};
+ghost use Rattle.job_outcomes.specs.Faults.{IsPure, ShelfStops};
 ghost use Rattle.jobs.specs.Wants.{LacksEither};
-ghost use Rattle.outcomes.specs.Steps.{Comes, Gives, Lacks};
+ghost use Rattle.job_outcomes.specs.Steps.{Comes, Gives, Lacks};
 ghost use Rattle.jobs.specs.Watchings.{TellsLog};
 ghost use Rattle.walk_hits.specs.Telling.{TellsHit};
 
 use crate::replaying::LOG_BYTES;
 use crate::sources::{SOURCE_BYTES, compiled};
-use access_order::law_ordered_walk;
-use answers::Part;
+use happens_before::law_ordered_walk;
+use command_line::Part;
 use job_runs::{log_in, or_stop};
 use lock_sound::{Weakened, law_weakened_runs};
 use order_log::Log;
-use outcomes::{Keeper, Outcome, Stop, file};
+use job_outcomes::{Keeper, Outcome, Stop, file};
 use rr_base::Bytes;
 use std::alloc::{AllocError, Global};
-use text_runs::law_text_erased_walk;
-use thread_flow::Formula;
+use compile_correct::law_text_erased_walk;
+use thread_interpreter::Formula;
 use walk_hits::told_hit;
 
 // What is told of the walk of the log on the weakened code.

@@ -1,24 +1,24 @@
 // The listing of a source's weak locks.
 
 ghost use Rattle.std.specs.Prelude.{◌≡◌, ◌≤◌, ◌^◌, length, IfErr, IfOk, MatchResult, option_map};
-ghost use Rattle.answers.specs.declared.answer.Answer.TheVariants as answer;
+ghost use Rattle.command_line.specs.declared.answer.Answer.TheVariants as answer;
 ghost use Rattle.jobs.specs.Jobs.{IsWeaken};
 ghost use Rattle.jobs.specs.Listings.{ListsWeakLocks};
 ghost use Rattle.jobs.specs.Sources.{IsTree};
 ghost use Rattle.jobs.specs.Wants.{LacksEither};
 ghost use Rattle.job_profiles.specs.Profiles.{LacksProfile};
-ghost use Rattle.outcomes.specs.Faults.{IsPure, ShelfStops};
+ghost use Rattle.job_outcomes.specs.Faults.{IsPure, ShelfStops};
 ghost use Rattle.listing.specs.WeakText.{weak_text_of};
-ghost use Rattle.outcomes.specs.Outcomes.{answers};
-ghost use Rattle.outcomes.specs.Steps.{Comes, Gives};
+ghost use Rattle.job_outcomes.specs.Outcomes.{answers};
+ghost use Rattle.job_outcomes.specs.Steps.{Comes, Gives};
 
 use crate::sources::{SOURCE_BYTES, compiled};
-use answers::{Answer, Part};
+use command_line::{Answer, Part};
 use job_profiles::profile_of;
 use job_runs::or_stop;
 use listing::weak_text;
 use lock_sound::Weakened;
-use outcomes::{Keeper, Outcome, Stop, file};
+use job_outcomes::{Keeper, Outcome, Stop, file};
 use profiles::Profile;
 use std::alloc::{AllocError, Global};
 

@@ -1,7 +1,7 @@
 // Calls of the jobs, and what is compared after them.
 use crew::Crew;
-use job_samples::outside::{Outside, SOUND, crew_of, input_of, owned, repeated, sink_of};
-use job_samples::shelves::{files_of, joined, shelf_of};
+use samples::outside::{Outside, SOUND, crew_of, input_of, owned, repeated, sink_of};
+use samples::shelves::{files_of, joined, shelf_of};
 use jobs::chimera;
 use rr_base::MemShelf;
 use std::alloc::{AllocError, Global};

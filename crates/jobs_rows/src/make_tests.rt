@@ -1,6 +1,6 @@
 use crate::checks::{check, check_in, holds_bytes};
-use job_samples::outside::{Outside, SOUND};
-use job_samples::shelves::shelf_of;
+use samples::outside::{Outside, SOUND};
+use samples::shelves::shelf_of;
 use rr_base::{List, MemShelf};
 use std::alloc::Global;
 use std::process::Abort;

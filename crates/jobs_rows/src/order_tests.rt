@@ -1,10 +1,10 @@
 use crate::checks::check_in;
 use crate::record_tests::same_log;
-use job_samples::bank::{BANK, BANK_LOG, CHANGES};
-use job_samples::logs::{RECORDED, SLOTS_3};
-use job_samples::outside::{Outside, SOUND};
-use job_samples::shelves::{REPLAY, bank_files, files_of, with_source};
-use job_samples::sources::{COUNTER, HALVES, HELD_BY_CALLER, ONE_LINE};
+use samples::bank::{BANK, BANK_LOG, CHANGES};
+use samples::logs::{RECORDED, SLOTS_3};
+use samples::outside::{Outside, SOUND};
+use samples::shelves::{REPLAY, bank_files, files_of, with_source};
+use samples::sources::{COUNTER, HALVES, HELD_BY_CALLER, ONE_LINE};
 use rr_base::MemShelf;
 use std::alloc::Global;
 use std::process::Abort;

@@ -1,10 +1,10 @@
 use crate::checks::{check_in, holds_bytes, holds_parts};
-use job_samples::bank::BANK;
-use job_samples::logs::{FIRST, IDLE, SLOTS_1, SLOTS_2, SLOTS_3, SLOTS_8};
-use job_samples::outside::{Outside, SOUND};
-use job_samples::shelves::{files_of, push_file};
-use job_samples::sources::{COUNTER, HELD, HELD_BY_CALLER, MISUSE};
-use job_samples::{bank, weak_runs};
+use samples::bank::BANK;
+use samples::logs::{FIRST, IDLE, SLOTS_1, SLOTS_2, SLOTS_3, SLOTS_8};
+use samples::outside::{Outside, SOUND};
+use samples::shelves::{files_of, push_file};
+use samples::sources::{COUNTER, HELD, HELD_BY_CALLER, MISUSE};
+use samples::{bank, weak_runs};
 use rr_base::{List, MemShelf};
 use std::alloc::{AllocError, Global};
 use std::process::Abort;

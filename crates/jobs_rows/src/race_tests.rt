@@ -1,7 +1,7 @@
 use crate::checks::{check, check_files, check_large};
-use job_samples::bank::BANK;
-use job_samples::shelves::files_of;
-use job_samples::sources::{COUNTER, HELD_BY_CALLER, ONE_LINE};
+use samples::bank::BANK;
+use samples::shelves::files_of;
+use samples::sources::{COUNTER, HELD_BY_CALLER, ONE_LINE};
 use std::alloc::Global;
 use std::process::Abort;
 use std::sync::Wait;

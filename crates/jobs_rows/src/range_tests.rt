@@ -1,8 +1,8 @@
 use crate::checks::{check_files, check_in};
-use job_samples::logs::{FIRST, SLOTS_3};
-use job_samples::outside::SOUND;
-use job_samples::shelves::{REPLAY, log_files};
-use job_samples::weak_runs::{BEGIN, STARTS};
+use samples::logs::{FIRST, SLOTS_3};
+use samples::outside::SOUND;
+use samples::shelves::{REPLAY, log_files};
+use samples::weak_runs::{BEGIN, STARTS};
 use std::alloc::Global;
 use std::process::Abort;
 use std::sync::Wait;

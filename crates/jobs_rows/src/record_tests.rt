@@ -1,9 +1,9 @@
 use crate::checks::{check_files, check_in, holds_bytes, holds_parts};
-use job_samples::bank::BANK;
-use job_samples::logs::{FIRST, IDLE, INPUT_HI, RECORDED, SLOTS_1, SLOTS_2, SLOTS_3, SLOTS_8};
-use job_samples::outside::{Outside, SOUND, repeated};
-use job_samples::shelves::{files_of, with_source};
-use job_samples::sources::{
+use samples::bank::BANK;
+use samples::logs::{FIRST, IDLE, INPUT_HI, RECORDED, SLOTS_1, SLOTS_2, SLOTS_3, SLOTS_8};
+use samples::outside::{Outside, SOUND, repeated};
+use samples::shelves::{files_of, with_source};
+use samples::sources::{
     COUNTER, DIVIDES, ECHOES, HELD_BY_CALLER, MISUSE, NO_POINTER, NONE_LEFT, PASSES, READERS,
     RWLOCK_MISUSE, WAITS,
 };

@@ -1,7 +1,7 @@
 use crate::checks::check_in;
 use crate::order_tests::ORDERS;
-use job_samples::outside::{Outside, SOUND};
-use job_samples::shelves::with_source;
+use samples::outside::{Outside, SOUND};
+use samples::shelves::with_source;
 use std::alloc::Global;
 use std::process::Abort;
 use std::sync::Wait;

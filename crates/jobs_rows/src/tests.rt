@@ -1,9 +1,9 @@
 use crate::checks::{check, check_files, check_large};
-use job_samples::bank::{BANK, BANK_LOG};
-use job_samples::logs::{FIRST, IDLE, SLOTS_8};
-use job_samples::outside::push_times;
-use job_samples::runs::{MORE_RUNS, RUNS};
-use job_samples::shelves::{REPLAY, files_of, joined, push_part, shelf_of};
+use samples::bank::{BANK, BANK_LOG};
+use samples::logs::{FIRST, IDLE, SLOTS_8};
+use samples::outside::push_times;
+use samples::runs::{MORE_RUNS, RUNS};
+use samples::shelves::{REPLAY, files_of, joined, push_part, shelf_of};
 use rr_base::Bytes;
 use std::alloc::{AllocError, Global};
 use std::process::Abort;

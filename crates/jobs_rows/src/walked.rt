@@ -1,7 +1,7 @@
 // Logs that the tests of walks share, and a source with read-write locks.
 
-use job_samples::logs::{FIRST, SLOTS_2, SLOTS_3};
-use job_samples::weak_runs::{
+use samples::logs::{FIRST, SLOTS_2, SLOTS_3};
+use samples::weak_runs::{
     BEGIN, END_2, JOIN_1, LOAD_1, LOAD_2, PRINT, STARTS, STORE_1, STORE_2,
 };
 

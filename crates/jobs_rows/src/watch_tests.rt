@@ -1,9 +1,9 @@
 use crate::checks::{check_files, check_in, holds_parts};
 use crate::walked::{CATALOGUE, CATALOGUE_LOG, LOST, TRAPS};
-use job_samples::logs::{FIRST, SLOTS_3};
-use job_samples::outside::{Outside, SOUND};
-use job_samples::shelves::files_of;
-use job_samples::sources::{COUNTER, HELD};
+use samples::logs::{FIRST, SLOTS_3};
+use samples::outside::{Outside, SOUND};
+use samples::shelves::files_of;
+use samples::sources::{COUNTER, HELD};
 use std::alloc::Global;
 use std::process::Abort;
 use std::sync::Wait;

@@ -1,10 +1,10 @@
 use crate::checks::{check, check_files, check_large};
 use crate::race_tests::READERS;
 use crate::tests::check_rows;
-use job_samples::bank::BANK;
-use job_samples::shelves::files_of;
-use job_samples::sources::{COUNTER, HALVES, HELD_BY_CALLER, ONE_LINE};
-use job_samples::weak_runs::WEAK_RUNS;
+use samples::bank::BANK;
+use samples::shelves::files_of;
+use samples::sources::{COUNTER, HALVES, HELD_BY_CALLER, ONE_LINE};
+use samples::weak_runs::WEAK_RUNS;
 use std::alloc::Global;
 use std::process::Abort;
 use std::sync::Wait;

@@ -1,7 +1,7 @@
 // Two sources that hold nearly every construct of the language and every call of the library, their logs, and what they print.
 
 use crate::checks::check_files;
-use job_samples::shelves::REPLAY;
+use samples::shelves::REPLAY;
 use std::alloc::Global;
 use std::process::Abort;
 use std::sync::Wait;

@@ -2,7 +2,7 @@
 
 ghost use Rattle.std.specs.Prelude.{◌≤◌, ◌^◌, length, IfOk};
 
-use answers::{Answer, text_of};
+use command_line::{Answer, text_of};
 use core_run::{Walk, walk};
 use front::{CompileFault, compile, plain};
 use listing::{races_text, weak_text};
@@ -11,7 +11,7 @@ use order_log::{Log, LogFault, read_log};
 use profiles::Profile;
 use rr_base::{Bytes, List, Shelf, ShelfEnd};
 use std::alloc::{AllocError, Global};
-use thread_flow::Formula;
+use thread_interpreter::Formula;
 
 /// The most bytes of a source, and of any other file here.
 const MOST_BYTES: u32 = 1_048_576;

@@ -5,7 +5,7 @@
 mod answered;
 mod table;
 
-use answers::FileShelf;
+use command_line::FileShelf;
 use std::process::ExitCode;
 use table::{Checked, check_table};
 

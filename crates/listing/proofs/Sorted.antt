@@ -6,7 +6,7 @@ use Rattle.std.specs.Ordering.{is_lt}
 use Rattle.std.proofs.lemmas.Bool.{cases_Bool, both_ways}
 use Rattle.flow_code.specs.declared.code.Code.{Code}
 use Rattle.facts.proofs.TotalOrders.{Orders, not_less_along}
-use Rattle.weak_facts.specs.declared.grain.Grained.{Grained}
+use Rattle.weak_lock_facts.specs.declared.grain.Grained.{Grained}
 use Rattle.listing.specs.declared.line.Line.{Line}
 use Rattle.listing.specs.Lines.{shown, shown_less, shown_same, line_less, sorted_lines}
 use Rattle.listing.specs.Sorting.{sorted_by}

@@ -8,9 +8,9 @@ use Rattle.flow_code.specs.declared.act.Instr.{Instr}
 use Rattle.flow_code.specs.declared.code.Code.{Code}
 use Rattle.flow_code.specs.declared.code.Function.{Function}
 use Rattle.flow_code.specs.declared.code.LockInfo.{LockInfo}
-use Rattle.weak_facts.specs.declared.grain.Grain.{Grain}
-use Rattle.weak_facts.specs.declared.grain.Grain.TheVariants as grain
-use Rattle.weak_facts.specs.declared.grain.Grained.{Grained}
+use Rattle.weak_lock_facts.specs.declared.grain.Grain.{Grain}
+use Rattle.weak_lock_facts.specs.declared.grain.Grain.TheVariants as grain
+use Rattle.weak_lock_facts.specs.declared.grain.Grained.{Grained}
 use Rattle.listing.specs.Sorting.{sorted_by}
 use Rattle.listing.specs.WeakText.{access_before, weak_text_of}
 

@@ -4,10 +4,10 @@ use Rattle.std.specs.List.{flat_map}
 use Rattle.flow_code.specs.declared.code.Code.{Code}
 use Rattle.flow_code.specs.declared.code.LockInfo.{LockInfo}
 use Rattle.facts.specs.declared.pair.AccessAt.{AccessAt}
-use Rattle.weak_facts.specs.declared.grain.Grain.{Grain}
-use Rattle.weak_facts.specs.declared.grain.Grain.TheVariants as grain
-use Rattle.weak_facts.specs.declared.grain.Grained.{Grained}
-use Rattle.weak_facts.specs.Grains.{name_of}
+use Rattle.weak_lock_facts.specs.declared.grain.Grain.{Grain}
+use Rattle.weak_lock_facts.specs.declared.grain.Grain.TheVariants as grain
+use Rattle.weak_lock_facts.specs.declared.grain.Grained.{Grained}
+use Rattle.weak_lock_facts.specs.Grains.{name_of}
 use Rattle.rr_base.specs.declared.position.Position.{Position}
 use Rattle.listing.specs.Lines.{shown, shown_less}
 use Rattle.listing.specs.Sorting.{sorted_by}

@@ -4,7 +4,7 @@ ghost use Rattle.facts.specs.Accesses as accesses;
 ghost use Rattle.listing.specs.Lines as lines;
 
 use crate::line::{Line, Shown};
-use abstract_machine::LibraryCall;
+use word_semantics::LibraryCall;
 use facts::{AccessAt, Pair};
 use flow_code::{Act, Code};
 use rr_base::Position;

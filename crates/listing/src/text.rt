@@ -4,7 +4,7 @@ ghost use Rattle.listing.specs.Text as listing;
 
 use crate::line::{Line, Shown};
 use crate::lines::sorted;
-use abstract_machine::site_at;
+use word_semantics::site_at;
 use facts::Pair;
 use flow_code::Code;
 use number_text::push_numbered;

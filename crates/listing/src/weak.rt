@@ -1,6 +1,6 @@
 // The text of weak locks and of the accesses that they guard.
 ghost use Rattle.std.specs.Prelude.{◌≡◌, ◌++◌, IfOk, OnOk};
-ghost use Rattle.weak_facts.specs.Grains.{name_of};
+ghost use Rattle.weak_lock_facts.specs.Grains.{name_of};
 ghost use Rattle.listing.specs.Sorting.{sorted_by};
 ghost use Rattle.listing.specs.WeakText as listing;
 
@@ -11,7 +11,7 @@ use flow_code::{Code, LockInfo};
 use number_text::push_numbered;
 use rr_base::{Bytes, List, Place, Position};
 use std::alloc::{AllocError, Global};
-use weak_facts::{Grain, Grained};
+use weak_lock_facts::{Grain, Grained};
 
 fn push_lock(out: &mut Bytes, code: &Code, number: usize, lock: LockInfo) -> Result<(), AllocError>
     ensures { OnOk result (out.new ≡ out.old ++ listing.lock_text code.now number lock) }

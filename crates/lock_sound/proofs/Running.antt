@@ -5,11 +5,11 @@ use Rattle.flow_code.specs.Constants.{constants_fit}
 use Rattle.flow_code.specs.Settle.{IsRunnable}
 use Rattle.flow_code.specs.Valid.{is_valid}
 use Rattle.flow_code.proofs.Runnable.{valid_runnable}
-use Rattle.weak_facts.specs.Ranges.{ranges_of}
+use Rattle.weak_lock_facts.specs.Ranges.{ranges_of}
 use Rattle.weak_code.specs.Stripped.{strip}
 use Rattle.weak_code.proofs.Running.{runs}
 use Rattle.weak_code.proofs.Stripping.{strip-weakened}
-use Rattle.weak_sound.proofs.Valid.{weakened_valid}
+use Rattle.weak_valid.proofs.Valid.{weakened_valid}
 use Rattle.lock_sound.specs.Weakened.{Analysed, IsAnalysed}
 use Rattle.lock_sound.proofs.Fits.{weak_fit}
 

@@ -9,13 +9,13 @@ use Rattle.facts.specs.Summaries.{AreSummaries}
 use Rattle.flow_code.specs.declared.code.Code.{Code}
 use Rattle.flow_code.specs.Constants.{constants_fit}
 use Rattle.flow_code.specs.Valid.{is_valid}
-use Rattle.weak_facts.specs.declared.grain.Grains.{Grains}
-use Rattle.weak_facts.specs.Grains.{AreGrains}
-use Rattle.weak_facts.specs.Ranges.{ranges_of}
+use Rattle.weak_lock_facts.specs.declared.grain.Grains.{Grains}
+use Rattle.weak_lock_facts.specs.Grains.{AreGrains}
+use Rattle.weak_lock_facts.specs.Ranges.{ranges_of}
 use Rattle.weak_code.specs.Stripped.{is_plain}
 use Rattle.weak_code.specs.Weakened.{weakened}
-use Rattle.weak_sound.specs.Apart.{loops_are_apart}
-use Rattle.weak_ways.specs.LoopsClosed.{loops_are_closed}
+use Rattle.weak_valid.specs.Apart.{loops_are_apart}
+use Rattle.guard_paths.specs.LoopsClosed.{loops_are_closed}
 
 -- the code, where its pointers point, the summaries of its functions, its race pairs, which functions may be at work at
 -- once, the grains of its racy accesses by them, and the code with its weak locks

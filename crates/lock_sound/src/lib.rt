@@ -1,5 +1,5 @@
 //! A code with what the analyses find of it and with its weak locks, as one value which keeps that it is so. It stands on
-//! `facts`, `weak_facts`, `weak_code`, `weak_sound` and `weak_ways`.
+//! `facts`, `weak_lock_facts`, `weak_code`, `weak_valid` and `guard_paths`.
 #![tactic(auto)]
 
 mod laws;

@@ -6,7 +6,7 @@ use flow_code::Code;
 use profiles::Profile;
 use rr_base::List;
 use std::marker::Model;
-use weak_facts::Grains;
+use weak_lock_facts::Grains;
 
 /// A valid code without weak locks, to which places its registers and cells may point, the summaries of its functions, its
 /// race pairs, which functions may be at work at once, the grains of its racy accesses, and the code with its weak locks.

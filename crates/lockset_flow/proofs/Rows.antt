@@ -1,7 +1,7 @@
 -- Worked rows of the definitions of rounds.
 use Rattle.std.proofs.Common.{◌≡◌, ◌+◌, ◌^◌, true, false, [], ◌∷◌, None, refl}
 use Rattle.flow_code.specs.declared.act.Act.TheVariants as act
-use Rattle.abstract_machine.specs.declared.library_call.LibraryCall.TheVariants as call
+use Rattle.word_semantics.specs.declared.library_call.LibraryCall.TheVariants as call
 use Rattle.sync_objects.specs.declared.mode.Mode.TheVariants.{Read, Write}
 use Rattle.facts.specs.declared.locks.LockPath.TheVariants.{Cell, Formal}
 use Rattle.facts.specs.declared.locks.Minus.TheVariants.{All, Listed}

@@ -6,13 +6,13 @@ use Rattle.rr_base.specs.Words.{base_of}
 use Rattle.flow_code.specs.declared.act.Act.{Act}
 use Rattle.flow_code.specs.declared.act.Act.TheVariants as act
 use Rattle.flow_code.specs.declared.act.Instr.{Instr}
-use Rattle.abstract_machine.specs.declared.library_call.LibraryCall.{LibraryCall}
-use Rattle.abstract_machine.specs.declared.library_call.LibraryCall.TheVariants as call
+use Rattle.word_semantics.specs.declared.library_call.LibraryCall.{LibraryCall}
+use Rattle.word_semantics.specs.declared.library_call.LibraryCall.TheVariants as call
 use Rattle.flow_code.specs.declared.code.Function.{Function}
 use Rattle.flow_code.specs.declared.work.Work.TheVariants as work
 use Rattle.std.proofs.lemmas.Option.{same_Some}
 use Rattle.flow_code.specs.Next.{act_in}
-use Rattle.abstract_machine.specs.Pointers.{directed}
+use Rattle.word_semantics.specs.Pointers.{directed}
 use Rattle.sync_objects.specs.declared.mode.Mode.{Mode}
 use Rattle.sync_objects.specs.declared.mode.Mode.TheVariants.{Read, Write}
 use Rattle.facts.specs.declared.locks.Held.{Held}

@@ -13,7 +13,7 @@ use Rattle.flow_code.specs.Kinds.{has_instr, act_fits, has_register}
 use Rattle.flow_code.specs.Next.{act_in}
 use Rattle.flow_code.specs.Order.{is_end, ends_in_itself, jumps_fit, objects_are_first, order_fits}
 use Rattle.flow_code.specs.Valid.{is_valid, is_within_limits, all_locks_fit, has_one_main, functions_fit, function_fits, registers_fit, acts_fit, loops_fit, regions_fit}
-use Rattle.abstract_machine.specs.Layouts.{sites_fit}
+use Rattle.word_semantics.specs.Layouts.{sites_fit}
 use Rattle.flow_code.specs.Addresses.{globals_fit}
 use Rattle.facts.specs.Locks.{successors}
 use Rattle.lockset_flow.specs.Flow.{FlowsWithin}

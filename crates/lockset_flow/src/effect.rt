@@ -6,7 +6,7 @@ ghost use Rattle.facts.specs.Paths.{actual_of, are_small_actuals};
 ghost use Rattle.lockset_flow.specs.Rounds.{library_by, after_by};
 
 use crate::calls::actuals;
-use abstract_machine::LibraryCall;
+use word_semantics::LibraryCall;
 use facts::{Naming, RelLocks};
 use flow_code::Act;
 use std::alloc::{AllocError, Global};

@@ -1,8 +1,8 @@
 -- The mutex or read-write lock of which a library call speaks, by the names of the call's arguments.
 use Rattle.std.proofs.Common.{◌≡◌, ◌≢◌, ◌+◌, ℕ, zero, suc, subst, List, [], ◌∷◌, length, get_or, map, refl, sym, ap, ◌∙◌, ◌++◌, ◌≤◌, take, add-one, arith, Option, Some}
 use Rattle.std.specs.Prelude.{slice_get}
-use Rattle.abstract_machine.specs.declared.library_call.LibraryCall.{LibraryCall}
-use Rattle.abstract_machine.specs.declared.library_call.LibraryCall.TheVariants as call
+use Rattle.word_semantics.specs.declared.library_call.LibraryCall.{LibraryCall}
+use Rattle.word_semantics.specs.declared.library_call.LibraryCall.TheVariants as call
 use Rattle.flow_code.specs.declared.code.Function.{Function}
 use Rattle.facts.specs.declared.locks.Naming.{Naming}
 use Rattle.facts.specs.declared.locks.Naming.TheVariants.{Unknown}

@@ -12,7 +12,7 @@ use Rattle.flow_code.specs.declared.code.Function.{Function}
 use Rattle.flow_code.specs.declared.work.Work.{Work}
 use Rattle.flow_code.specs.declared.work.Work.TheVariants as work
 use Rattle.flow_code.specs.Next.{act_in}
-use Rattle.abstract_machine.specs.Pointers.{directed}
+use Rattle.word_semantics.specs.Pointers.{directed}
 use Rattle.facts.specs.Blocks.{begins_block, assigns, constant_at}
 use Rattle.facts.specs.declared.locks.Held.{Held}
 use Rattle.facts.specs.declared.locks.LockPath.{LockPath}

@@ -1,6 +1,6 @@
 -- Worked rows of this crate's definitions.
 use Rattle.std.proofs.Common.{◌≡◌, refl, false, [], ◌∷◌, Some}
-use Rattle.abstract_machine.specs.declared.library_call.LibraryCall.TheVariants as call
+use Rattle.word_semantics.specs.declared.library_call.LibraryCall.TheVariants as call
 use Rattle.facts.specs.declared.locks.LockPath.{LockPath}
 use Rattle.facts.specs.declared.locks.LockPath.TheVariants.{Cell}
 use Rattle.facts.specs.declared.locks.Minus.TheVariants.{All, Listed}

@@ -1,7 +1,7 @@
 -- The mutex or read-write lock of which a library call speaks, by the names of the call's arguments.
 use Rattle.std.specs.Prelude.{List, [], ◌∷◌}
-use Rattle.abstract_machine.specs.declared.library_call.LibraryCall.{LibraryCall}
-use Rattle.abstract_machine.specs.declared.library_call.LibraryCall.TheVariants as call
+use Rattle.word_semantics.specs.declared.library_call.LibraryCall.{LibraryCall}
+use Rattle.word_semantics.specs.declared.library_call.LibraryCall.TheVariants as call
 use Rattle.facts.specs.declared.locks.Naming.{Naming}
 use Rattle.facts.specs.declared.locks.Naming.TheVariants.{Unknown}
 

@@ -13,7 +13,7 @@ ghost use Rattle.lockset_summary.specs.Visits.{IsOrder};
 use crate::names::{names_at, names_of};
 use crate::rows::insert;
 use crate::visits::function_at;
-use abstract_machine::LibraryCall;
+use word_semantics::LibraryCall;
 use facts::{Guarded, LockPath, Naming, RelLocks};
 use flow_code::{Act, Code};
 use lockset_flow::{FlowFacts, actuals};

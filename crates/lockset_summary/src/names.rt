@@ -5,7 +5,7 @@ ghost use Rattle.flow_code.specs.declared.code.Function.{Function as Routine};
 ghost use Rattle.facts.specs.Paths as paths;
 ghost use Rattle.lockset_summary.specs.Names as spec;
 
-use abstract_machine::LibraryCall;
+use word_semantics::LibraryCall;
 use facts::{Naming, argument_names};
 use flow_code::{Code, Function};
 use rr_base::List;

@@ -9,9 +9,9 @@ use Rattle.sync_objects.specs.declared.entry.Noted.{Noted}
 use Rattle.core_run.specs.Histories.{entries_in}
 use Rattle.core_run.specs.Kept.{endings_in}
 use Rattle.core_run.specs.Machine.{Told}
-use Rattle.runs.specs.Merge.{Taken, Stuck, Takes, next_entry, merged_on, merged_after, total_length}
-use Rattle.runs.specs.Steps.{entries_of}
-use Rattle.runs.proofs.Lists.{AllIn}
+use Rattle.run_theory.specs.Merge.{Taken, Stuck, Takes, next_entry, merged_on, merged_after, total_length}
+use Rattle.run_theory.specs.Steps.{entries_of}
+use Rattle.run_theory.proofs.Lists.{AllIn}
 
 -- ---- facts of each entry
 

@@ -13,9 +13,9 @@ use Rattle.sync_objects.specs.declared.object.ObjId.TheVariants as object
 use Rattle.sync_objects.specs.declared.operation.Op.{Op}
 use Rattle.sync_objects.specs.declared.operation.Op.TheVariants as op
 use Rattle.sync_objects.specs.declared.operation.OpName.TheVariants as name
-use Rattle.abstract_machine.specs.declared.event.Action.{Action}
-use Rattle.abstract_machine.specs.declared.event.Action.TheVariants as action
-use Rattle.abstract_machine.proofs.Calls.{is_from_outside}
+use Rattle.word_semantics.specs.declared.event.Action.{Action}
+use Rattle.word_semantics.specs.declared.event.Action.TheVariants as action
+use Rattle.word_semantics.proofs.Calls.{is_from_outside}
 use Rattle.flow_code.specs.declared.code.Code.{Code}
 use Rattle.flow_code.specs.Next.{stepped as thread_stepped, action_at, gave_up, stopped, slot_closed}
 use Rattle.flow_code.specs.Settle.{settled, IsRunnable}
@@ -23,16 +23,16 @@ use Rattle.flow_code.specs.Threads.{Thread}
 use Rattle.flow_code.proofs.Asked.{own_action}
 use Rattle.core_run.specs.Histories.{IsReachable}
 use Rattle.core_run.specs.Words.{cells_of, has_object}
-use Rattle.thread_flow.specs.Pieces.{piece_next}
+use Rattle.thread_interpreter.specs.Pieces.{piece_next}
 use Rattle.core_run.specs.Machine.{Told, operation, action_effect, may_revoke, may_stop, may_close, effect_of, machine, start_state}
 use Rattle.core_run.proofs.Lawful.{effect_go, effect_revoke, effect_stop, effect_close}
 use Rattle.core_run.proofs.ThreadRanges.{start_thread_is}
 use Rattle.core_run.proofs.Told.{effect_tells, outcome_tells}
-use Rattle.runs.specs.Labels.{Label, Go, Revoke, Stop, Close, label_thread}
-use Rattle.runs.specs.Steps.{Effect, Refused, Marks, Loads, Stores, Operates, State, stepped, effect_entry}
-use Rattle.runs.proofs.Kept.{kept_along, reaches_step}
-use Rattle.runs.proofs.Lists.{AllIn, AllIn-append}
-use Rattle.runs.proofs.Swap.{steps_of}
+use Rattle.run_theory.specs.Labels.{Label, Go, Revoke, Stop, Close, label_thread}
+use Rattle.run_theory.specs.Steps.{Effect, Refused, Marks, Loads, Stores, Operates, State, stepped, effect_entry}
+use Rattle.run_theory.proofs.Kept.{kept_along, reaches_step}
+use Rattle.run_theory.proofs.Lists.{AllIn, AllIn-append}
+use Rattle.run_theory.proofs.Swap.{steps_of}
 
 -- the entry fits its object, and comes within the limit if it is a revoke
 pub record IsFitting (s : SetupView) (e : Entry) : Type 0 where

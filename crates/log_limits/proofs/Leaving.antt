@@ -8,19 +8,19 @@ use Rattle.sync_objects.specs.declared.operation.Op.{Op}
 use Rattle.sync_objects.specs.declared.operation.Op.TheVariants as op
 use Rattle.rr_base.specs.declared.trap.Trap.{Trap}
 use Rattle.rr_base.specs.declared.trap.Trap.TheVariants as trap
-use Rattle.abstract_machine.specs.declared.event.Due.{Due}
-use Rattle.abstract_machine.specs.declared.event.Due.TheVariants as due
-use Rattle.abstract_machine.specs.declared.event.Onward.{Onward}
-use Rattle.abstract_machine.specs.declared.event.Onward.TheVariants as onward
-use Rattle.abstract_machine.specs.declared.library_call.LibraryCall.{LibraryCall}
-use Rattle.abstract_machine.specs.declared.library_call.LibraryCall.TheVariants as call
-use Rattle.abstract_machine.specs.Library.{Caller, argument, is_misuse, is_serial, create_onward, join_onward, checked_onward, try_onward, wait_onward, barrier_wait_onward, library_due, library_onward}
-use Rattle.abstract_machine.specs.Limits.{most_frames}
-use Rattle.abstract_machine.specs.Pointers.{resolved}
-use Rattle.abstract_machine.specs.Cells.{access_kind, size_of, cells_in, is_size}
-use Rattle.abstract_machine.specs.Registers.{register, words_of}
-use Rattle.abstract_machine.specs.Values.{number}
-use Rattle.abstract_machine.proofs.Calls.{CallOperates, goes, ends_slot, leaves_all, CallGoes, call_goes}
+use Rattle.word_semantics.specs.declared.event.Due.{Due}
+use Rattle.word_semantics.specs.declared.event.Due.TheVariants as due
+use Rattle.word_semantics.specs.declared.event.Onward.{Onward}
+use Rattle.word_semantics.specs.declared.event.Onward.TheVariants as onward
+use Rattle.word_semantics.specs.declared.library_call.LibraryCall.{LibraryCall}
+use Rattle.word_semantics.specs.declared.library_call.LibraryCall.TheVariants as call
+use Rattle.word_semantics.specs.Library.{Caller, argument, is_misuse, is_serial, create_onward, join_onward, checked_onward, try_onward, wait_onward, barrier_wait_onward, library_due, library_onward}
+use Rattle.word_semantics.specs.Limits.{most_frames}
+use Rattle.word_semantics.specs.Pointers.{resolved}
+use Rattle.word_semantics.specs.Cells.{access_kind, size_of, cells_in, is_size}
+use Rattle.word_semantics.specs.Registers.{register, words_of}
+use Rattle.word_semantics.specs.Values.{number}
+use Rattle.word_semantics.proofs.Calls.{CallOperates, goes, ends_slot, leaves_all, CallGoes, call_goes}
 use Rattle.flow_code.specs.declared.act.Act.{Act}
 use Rattle.flow_code.specs.declared.act.Act.TheVariants as act
 use Rattle.flow_code.specs.declared.code.Code.{Code}
@@ -32,7 +32,7 @@ use Rattle.flow_code.specs.Next.{value_of, act_at, pointers_of, quiet_unless, lo
 use Rattle.flow_code.specs.Threads.{Frame, Thread, arena_end, objects_in, fitted, is_main}
 use Rattle.flow_code.specs.Works.{is_pointer, work_of}
 use Rattle.flow_code.proofs.Ranges.{leave_by_code}
-use Rattle.weak_ways.specs.Reached.{Reached}
+use Rattle.guard_paths.specs.Reached.{Reached}
 use Rattle.open_regions.specs.OpenStripes.{is_exit}
 use Rattle.log_limits.proofs.Parting.{Parted, reached_parted}
 

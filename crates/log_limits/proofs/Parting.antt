@@ -4,14 +4,14 @@ use Rattle.std.specs.Prelude.{slice_get}
 use Rattle.sync_objects.specs.Setup.{SetupView}
 use Rattle.sync_objects.specs.declared.operation.Op.TheVariants as op
 use Rattle.rr_base.specs.declared.trap.Trap.{Trap}
-use Rattle.abstract_machine.specs.declared.event.Due.{Due}
-use Rattle.abstract_machine.specs.declared.event.Due.TheVariants as due
-use Rattle.abstract_machine.specs.declared.event.Onward.{Onward}
-use Rattle.abstract_machine.specs.declared.event.Onward.TheVariants as onward
-use Rattle.abstract_machine.specs.declared.library_call.LibraryCall.{LibraryCall}
-use Rattle.abstract_machine.specs.declared.library_call.LibraryCall.TheVariants as call
-use Rattle.abstract_machine.specs.Library.{library_onward}
-use Rattle.abstract_machine.specs.Registers.{words_of}
+use Rattle.word_semantics.specs.declared.event.Due.{Due}
+use Rattle.word_semantics.specs.declared.event.Due.TheVariants as due
+use Rattle.word_semantics.specs.declared.event.Onward.{Onward}
+use Rattle.word_semantics.specs.declared.event.Onward.TheVariants as onward
+use Rattle.word_semantics.specs.declared.library_call.LibraryCall.{LibraryCall}
+use Rattle.word_semantics.specs.declared.library_call.LibraryCall.TheVariants as call
+use Rattle.word_semantics.specs.Library.{library_onward}
+use Rattle.word_semantics.specs.Registers.{words_of}
 use Rattle.flow_code.specs.declared.act.Act.{Act}
 use Rattle.flow_code.specs.declared.act.Act.TheVariants as act
 use Rattle.flow_code.specs.declared.code.Code.{Code}
@@ -23,7 +23,7 @@ use Rattle.flow_code.specs.Holding.{region_of, lacked, taken, open_place, to_giv
 use Rattle.flow_code.specs.Next.{act_at, pointers_of, computed, back_in, end_onward, returned, resumed, call_after, on_unless, act_after, begun_after, phase_after, owed_at, with_owed, after_due, same_stripe, due_of, caller, stepped, value_of}
 use Rattle.flow_code.specs.Threads.{Thread, is_main}
 use Rattle.flow_code.specs.Works.{work_of}
-use Rattle.weak_ways.specs.Reached.{Reached, starts, steps, loses, stops, shuts}
+use Rattle.guard_paths.specs.Reached.{Reached, starts, steps, loses, stops, shuts}
 use Rattle.open_regions.specs.OpenStripes.{is_exit}
 
 -- where so many events of a call are made, and it is one that ends its thread, these are no stripes

@@ -12,11 +12,11 @@ use Rattle.core_run.proofs.WholeRuns.{written_is_merge}
 use Rattle.lock_sound.specs.Weakened.{Analysed, IsAnalysed}
 use Rattle.lock_sound.proofs.Running.{weakened_runs, weakened_is_valid}
 use Rattle.order_log.specs.Log.{AreWithin}
-use Rattle.runs.specs.Labels.{Label}
-use Rattle.runs.specs.Merge.{IsMerge, written_merge}
-use Rattle.runs.specs.Steps.{State}
-use Rattle.weak_facts.specs.Ranges.{ranges_of}
-use Rattle.weak_ways.proofs.Ends.{nothing_left}
+use Rattle.run_theory.specs.Labels.{Label}
+use Rattle.run_theory.specs.Merge.{IsMerge, written_merge}
+use Rattle.run_theory.specs.Steps.{State}
+use Rattle.weak_lock_facts.specs.Ranges.{ranges_of}
+use Rattle.guard_paths.proofs.Ends.{nothing_left}
 use Rattle.log_limits.proofs.Leaving.{EndsEmpty}
 use Rattle.log_limits.proofs.Within.{merge_is_within, revoked_early}
 

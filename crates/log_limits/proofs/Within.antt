@@ -12,7 +12,7 @@ use Rattle.sync_objects.specs.declared.object.ObjId.{ObjId}
 use Rattle.sync_objects.specs.declared.object.ObjId.TheVariants as object
 use Rattle.sync_objects.specs.declared.operation.OpName.{OpName}
 use Rattle.sync_objects.specs.declared.operation.OpName.TheVariants as name
-use Rattle.abstract_machine.specs.Limits.{most_entries, most_revokes}
+use Rattle.word_semantics.specs.Limits.{most_entries, most_revokes}
 use Rattle.flow_code.specs.declared.code.Code.{Code}
 use Rattle.flow_code.specs.Next.{holds as has_it, has_ended}
 use Rattle.flow_code.specs.Ranges.{IsCounted, within, leaving, over}
@@ -29,11 +29,11 @@ use Rattle.core_run.specs.Words.{cells_of, has_object}
 use Rattle.core_run.proofs.Listed.{AreListed, threads_listed, start_listed}
 use Rattle.core_run.proofs.Reached.{kept}
 use Rattle.core_run.proofs.ThreadRanges.{start_all_in_range, threads_in_range, revoke_lives}
-use Rattle.runs.specs.Labels.{Label}
-use Rattle.runs.specs.Merge.{IsMerge, total_length, written_merge}
-use Rattle.runs.specs.Steps.{State, stepped, entries_of}
-use Rattle.runs.proofs.Kept.{kept_along}
-use Rattle.runs.proofs.Lists.{AllIn, AllIn-map, AllIn-of_threads}
+use Rattle.run_theory.specs.Labels.{Label}
+use Rattle.run_theory.specs.Merge.{IsMerge, total_length, written_merge}
+use Rattle.run_theory.specs.Steps.{State, stepped, entries_of}
+use Rattle.run_theory.proofs.Kept.{kept_along}
+use Rattle.run_theory.proofs.Lists.{AllIn, AllIn-map, AllIn-of_threads}
 use Rattle.order_log.specs.Log.{IsObjectWithin, last_count, IsEntryWithin, is_ending_of, is_other_of, AreWithin}
 use Rattle.open_regions.proofs.Machines.{all_reached}
 use Rattle.log_limits.proofs.Counting.{all_in, both_in, each_entry, count_own, count_endings, count_others, length_entries, few_merged, few_in_all}

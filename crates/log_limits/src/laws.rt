@@ -11,9 +11,9 @@ ghost use Rattle.core_run.specs.Histories.{run_of, list_of, lists_of, entries_in
 ghost use Rattle.core_run.specs.Machine.{Told};
 ghost use Rattle.lock_sound.specs.Weakened.{Analysed, IsAnalysed};
 ghost use Rattle.order_log.specs.Log.{AreWithin};
-ghost use Rattle.runs.specs.Labels.{Label};
-ghost use Rattle.runs.specs.Merge.{IsMerge, written_merge};
-ghost use Rattle.runs.specs.Steps.{State};
+ghost use Rattle.run_theory.specs.Labels.{Label};
+ghost use Rattle.run_theory.specs.Merge.{IsMerge, written_merge};
+ghost use Rattle.run_theory.specs.Steps.{State};
 
 /// Law: what is written as the log of a run of weakened code is within the limits of a log, and each operation fits its object.
 /// Of code that may return with a region open this doesn't hold: between the end of its slot and its leaving, a thread at its

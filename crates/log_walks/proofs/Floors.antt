@@ -9,10 +9,10 @@ use Rattle.sync_objects.specs.declared.object.ObjId.TheVariants as object
 use Rattle.sync_objects.specs.declared.operation.Op.{Op}
 use Rattle.sync_objects.specs.declared.operation.Op.TheVariants as op
 use Rattle.sync_objects.specs.declared.operation.OpName.{OpName}
-use Rattle.abstract_machine.specs.declared.event.Action.{Action}
-use Rattle.abstract_machine.specs.declared.event.Action.TheVariants as action
-use Rattle.abstract_machine.specs.declared.event.Due.{Due}
-use Rattle.abstract_machine.specs.declared.event.Due.TheVariants as due
+use Rattle.word_semantics.specs.declared.event.Action.{Action}
+use Rattle.word_semantics.specs.declared.event.Action.TheVariants as action
+use Rattle.word_semantics.specs.declared.event.Due.{Due}
+use Rattle.word_semantics.specs.declared.event.Due.TheVariants as due
 use Rattle.flow_code.specs.declared.code.Code.{Code}
 use Rattle.flow_code.specs.Next.{stepped, action_at, action_of, after_due, due_of, gave_up, stopped, slot_closed, has_begun, has_ended, holds}
 use Rattle.flow_code.specs.Settle.{settled}
@@ -20,11 +20,11 @@ use Rattle.flow_code.specs.Threads.{Thread}
 use Rattle.flow_code.proofs.Counts.{after_operate, ended_action, phase_keeps, settled_keeps_all, stepped_is}
 use Rattle.flow_code.proofs.Settle.{action_is}
 use Rattle.core_run.specs.Words.{cells_of, has_object}
-use Rattle.thread_flow.specs.Pieces.{piece_next}
+use Rattle.thread_interpreter.specs.Pieces.{piece_next}
 use Rattle.core_run.specs.Machine.{Told, change_of, entry_of, operation, action_effect, may_revoke, may_stop, may_close, effect_of}
 use Rattle.core_run.proofs.Lawful.{effect_go, effect_revoke, effect_stop, effect_close, change_is}
-use Rattle.runs.specs.Labels.{Label, Go, Revoke, Stop, Close}
-use Rattle.runs.specs.Steps.{Change, Becomes, Effect, Refused, Operates}
+use Rattle.run_theory.specs.Labels.{Label, Go, Revoke, Stop, Close}
+use Rattle.run_theory.specs.Steps.{Change, Becomes, Effect, Refused, Operates}
 use Rattle.log_walks.specs.Followed.{floor}
 
 -- the count after an operation of this name
@@ -99,7 +99,7 @@ module _ (code : Code) (s : SetupView) where
   ended_false false b c = refl
 
   no_revoke : (th : Thread) (lock stripe : ℕ) → has_ended th.phase ≡ true → may_revoke th lock stripe ≡ false
-  no_revoke th lock stripe ended = ap (λ b. not b && holds th.stripes lock stripe && nat_lt th.entries Rattle.abstract_machine.specs.Limits.most_entries && nat_lt th.revokes Rattle.abstract_machine.specs.Limits.most_revokes) ended
+  no_revoke th lock stripe ended = ap (λ b. not b && holds th.stripes lock stripe && nat_lt th.entries Rattle.word_semantics.specs.Limits.most_entries && nat_lt th.revokes Rattle.word_semantics.specs.Limits.most_revokes) ended
 
   no_end : (b : Bool) (th : Thread) → has_ended th.phase ≡ true → (b && not (has_ended th.phase)) ≡ false
   no_end true th ended = ap not ended

@@ -17,13 +17,13 @@ use Rattle.core_run.specs.Words.{cells_of, place_of, start_words}
 use Rattle.core_run.proofs.Beginnings.{start_number, start_word_at}
 use Rattle.core_run.proofs.Lawful.{lawful}
 use Rattle.core_run.proofs.Told.{list_is}
-use Rattle.runs.specs.Laws.{IsLawful}
-use Rattle.runs.specs.Paths.{IsPrefixOf}
-use Rattle.runs.specs.Steps.{State, entries_of, trace}
-use Rattle.runs.proofs.Lists.{own_out}
-use Rattle.followed_logs.specs.Following.{EndedRest, Follows, HasMade, IsFresh, LeavesAtLeast}
-use Rattle.followed_logs.specs.Numbered.{numbered, numbered_after, with_number}
-use Rattle.followed_logs.proofs.Whole.{refused, taken}
+use Rattle.run_theory.specs.Laws.{IsLawful}
+use Rattle.run_theory.specs.Paths.{IsPrefixOf}
+use Rattle.run_theory.specs.Steps.{State, entries_of, trace}
+use Rattle.run_theory.proofs.Lists.{own_out}
+use Rattle.replay_theory.specs.Following.{EndedRest, Follows, HasMade, IsFresh, LeavesAtLeast}
+use Rattle.replay_theory.specs.Numbered.{numbered, numbered_after, with_number}
+use Rattle.replay_theory.proofs.Whole.{refused, taken}
 use Rattle.log_walks.specs.Followed.{floor, Followed}
 use Rattle.log_walks.proofs.Floors.{ended_rests, leaves_floor}
 

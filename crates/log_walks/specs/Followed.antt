@@ -6,11 +6,11 @@ use Rattle.sync_objects.specs.declared.entry.Entry.{Entry}
 use Rattle.flow_code.specs.declared.code.Code.{Code}
 use Rattle.core_run.specs.Histories.{run_of}
 use Rattle.core_run.specs.Machine.{Told, machine}
-use Rattle.runs.specs.Labels.{Label}
-use Rattle.runs.specs.Paths.{IsPrefixOf}
-use Rattle.runs.specs.Steps.{State, entries_of}
-use Rattle.followed_logs.specs.Numbered.{numbered, with_number}
-use Rattle.followed_logs.specs.Following.{Departs}
+use Rattle.run_theory.specs.Labels.{Label}
+use Rattle.run_theory.specs.Paths.{IsPrefixOf}
+use Rattle.run_theory.specs.Steps.{State, entries_of}
+use Rattle.replay_theory.specs.Numbered.{numbered, with_number}
+use Rattle.replay_theory.specs.Following.{Departs}
 
 -- the count that an operation leaves to its thread: those on stripes are no events of the program
 abbrev pub floor : Entry → ℕ

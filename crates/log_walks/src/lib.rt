@@ -1,5 +1,5 @@
 //! The walks of logs that threads have followed side by side, each by its own entries: they are those of the log walked alone,
-//! whatever the interleaving was. It joins `followed_logs` and the machine of `core_run`, has no program, and promises its laws.
+//! whatever the interleaving was. It joins `replay_theory` and the machine of `core_run`, has no program, and promises its laws.
 #![tactic(auto)]
 
 ghost use Rattle.std.specs.Prelude.{◌≡◌, ◌≤◌, ◌<◌, ◌↔◌, ℕ, List, Some, length, slice_get};
@@ -10,7 +10,7 @@ ghost use Rattle.flow_code.specs.declared.code.Code.{Code};
 ghost use Rattle.core_run.specs.Histories.{HasNoRace, HaveEnded};
 ghost use Rattle.core_run.specs.Machine.{Told, start_state};
 ghost use Rattle.core_run.specs.Walks.{IsRefusedAt, IsUnfinished, walk_of};
-ghost use Rattle.runs.specs.Steps.{State};
+ghost use Rattle.run_theory.specs.Steps.{State};
 ghost use Rattle.log_walks.specs.Followed.{Followed};
 
 /// Where the threads have followed a log up to a position in it, its walk is refused there and not before.

@@ -13,11 +13,11 @@ use Rattle.flow_code.specs.declared.code.LoopInfo.{LoopInfo}
 use Rattle.flow_code.specs.declared.region.Bound.{Bound}
 use Rattle.flow_code.specs.declared.region.Bound.TheVariants as bound
 use Rattle.flow_code.specs.declared.work.Work.TheVariants as work
-use Rattle.abstract_machine.specs.declared.operator.BinaryOp.TheVariants as op
+use Rattle.word_semantics.specs.declared.operator.BinaryOp.TheVariants as op
 use Rattle.flow_code.specs.Order.{is_mark}
 use Rattle.facts.specs.Blocks.{assigns}
 use Rattle.facts.specs.Paths.{is_never_assigned}
-use Rattle.weak_facts.specs.Loops.{nth, copy_into, number_into, bound_into, bound_size, are_apart, less_into, sum_into, is_branch, is_copy, is_any_copy, is_jump, are_numbers, adds_itself, last_part_at, condition_end, added as added_at, has_places, tested, begins_so, raised, ends_so, has_form, keeps, keeps_counter, keeps_bound, keeps_numbers, is_entered_at, is_entered_so, is_counted}
+use Rattle.weak_lock_facts.specs.Loops.{nth, copy_into, number_into, bound_into, bound_size, are_apart, less_into, sum_into, is_branch, is_copy, is_any_copy, is_jump, are_numbers, adds_itself, last_part_at, condition_end, added as added_at, has_places, tested, begins_so, raised, ends_so, has_form, keeps, keeps_counter, keeps_bound, keeps_numbers, is_entered_at, is_entered_so, is_counted}
 use Rattle.loop_bounds.specs.Forms.{HasBound, IsEnteredAt, IsCondition, IsLastPart, IsBorneOut}
 use Rattle.loop_bounds.proofs.Steps.{both_true, not_true, never_there, is_entered}
 

@@ -8,7 +8,7 @@ use Rattle.flow_code.specs.declared.act.Act.TheVariants as act
 use Rattle.flow_code.specs.declared.act.Instr.{Instr}
 use Rattle.flow_code.specs.declared.code.LoopInfo.{LoopInfo}
 use Rattle.facts.specs.Blocks.{goes_to, is_target}
-use Rattle.weak_facts.specs.Loops.{nth, is_within, goes_into, none_goes_into, is_entered_at, is_jump, is_copy, is_any_copy, raised, adds_itself, last_part_at, condition_end, has_places, begins_so, ends_so, has_form}
+use Rattle.weak_lock_facts.specs.Loops.{nth, is_within, goes_into, none_goes_into, is_entered_at, is_jump, is_copy, is_any_copy, raised, adds_itself, last_part_at, condition_end, has_places, begins_so, ends_so, has_form}
 
 -- ---- firsts
 

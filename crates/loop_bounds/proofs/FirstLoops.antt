@@ -6,7 +6,7 @@ use Rattle.std.proofs.lemmas.Option.{same_Some, none-some}
 use Rattle.flow_code.specs.declared.act.Instr.{Instr}
 use Rattle.flow_code.specs.declared.code.LoopInfo.{LoopInfo}
 use Rattle.loop_bounds.specs.Tables.{is_calm, AreCalm, first_at}
-use Rattle.weak_facts.specs.Ranges.{mark_before, is_number, is_innermost, loop_round}
+use Rattle.weak_lock_facts.specs.Ranges.{mark_before, is_number, is_innermost, loop_round}
 
 none_of : (a : Bool) → (a && false) ≡ false
 none_of true = refl

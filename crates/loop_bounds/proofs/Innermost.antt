@@ -13,8 +13,8 @@ use Rattle.facts.specs.Blocks.{goes_to, is_target}
 use Rattle.facts.specs.PointsTo.{Tables}
 use Rattle.facts.proofs.Marked.{take_all}
 use Rattle.loop_bounds.specs.Tables.{AreRounds, following, is_calm, calm_loops, AreCalm}
-use Rattle.weak_facts.specs.Loops.{◌>>=◌, nth}
-use Rattle.weak_facts.specs.Ranges.{begins_round, mark_before, is_innermost, loop_round, pointer_of, range_in, range_at, ranges_in}
+use Rattle.weak_lock_facts.specs.Loops.{◌>>=◌, nth}
+use Rattle.weak_lock_facts.specs.Ranges.{begins_round, mark_before, is_innermost, loop_round, pointer_of, range_in, range_at, ranges_in}
 use Rattle.loop_bounds.proofs.Marks.{found, passed}
 
 -- ---- ends

@@ -8,10 +8,10 @@ use Rattle.flow_code.specs.declared.act.Act.TheVariants as act
 use Rattle.flow_code.specs.declared.act.Instr.{Instr}
 use Rattle.flow_code.specs.declared.work.Work.TheVariants as work
 use Rattle.flow_code.specs.Next.{act_in}
-use Rattle.abstract_machine.specs.Registers.{register}
+use Rattle.word_semantics.specs.Registers.{register}
 use Rattle.facts.specs.Blocks.{begins_block, follows_end, is_target, goes_to, assigns, constant_of, constant_at}
-use Rattle.weak_facts.specs.Loops.{nth}
-use Rattle.weak_facts.specs.Ranges.{maker_at, last_maker}
+use Rattle.weak_lock_facts.specs.Loops.{nth}
+use Rattle.weak_lock_facts.specs.Ranges.{maker_at, last_maker}
 use Rattle.loop_bounds.specs.Turns.{Setting, Goes, Comes, begins, goes}
 use Rattle.loop_bounds.proofs.Steps.{kept, as_long, onward}
 use Rattle.loop_bounds.proofs.Regions.{IsEntered, holds_in}

@@ -9,8 +9,8 @@ use Rattle.flow_code.specs.declared.region.Base.{Base}
 use Rattle.flow_code.specs.Next.{act_in}
 use Rattle.facts.specs.Blocks.{begins_block, assigns}
 use Rattle.facts.specs.Paths.{is_never_assigned}
-use Rattle.weak_facts.specs.Loops.{◌>>=◌, nth, keeps}
-use Rattle.weak_facts.specs.Ranges.{maker_at, moved_of, base_at, shift_at, moved_shift}
+use Rattle.weak_lock_facts.specs.Loops.{◌>>=◌, nth, keeps}
+use Rattle.weak_lock_facts.specs.Ranges.{maker_at, moved_of, base_at, shift_at, moved_shift}
 use Rattle.loop_bounds.specs.Tables.{AreOperands, makers_in}
 use Rattle.loop_bounds.proofs.Soles.{Sole, Makerless, fits, Fits}
 

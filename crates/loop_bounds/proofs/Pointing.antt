@@ -18,15 +18,15 @@ use Rattle.flow_code.specs.declared.region.Base.{Base}
 use Rattle.flow_code.specs.declared.region.Base.TheVariants as base
 use Rattle.flow_code.specs.declared.work.Work.{Work}
 use Rattle.flow_code.specs.declared.work.Work.TheVariants as work
-use Rattle.abstract_machine.specs.declared.operator.BinaryOp.TheVariants as op
-use Rattle.abstract_machine.specs.Values.{number, word, fits, fitting, binary_of}
-use Rattle.abstract_machine.specs.Pointers.{directed, moved_by}
+use Rattle.word_semantics.specs.declared.operator.BinaryOp.TheVariants as op
+use Rattle.word_semantics.specs.Values.{number, word, fits, fitting, binary_of}
+use Rattle.word_semantics.specs.Pointers.{directed, moved_by}
 use Rattle.flow_code.specs.Works.{is_pointer, work_of}
-use Rattle.abstract_machine.specs.Registers.{register}
-use Rattle.abstract_machine.specs.Operators.{based, either_binary_of}
+use Rattle.word_semantics.specs.Registers.{register}
+use Rattle.word_semantics.specs.Operators.{based, either_binary_of}
 use Rattle.facts.specs.Blocks.{assigns, is_target, constant_at}
-use Rattle.weak_facts.specs.Loops.{nth, keeps, is_entered_at}
-use Rattle.weak_facts.specs.Ranges.{maker_at, made_at, base_of, base_at, negative, negative_of, shift_by, made_shift, shift_at, moved_of, moved_shift, last_maker, has_one_maker, only_maker, pointer_of}
+use Rattle.weak_lock_facts.specs.Loops.{nth, keeps, is_entered_at}
+use Rattle.weak_lock_facts.specs.Ranges.{maker_at, made_at, base_of, base_at, negative, negative_of, shift_by, made_shift, shift_at, moved_of, moved_shift, last_maker, has_one_maker, only_maker, pointer_of}
 use Rattle.loop_bounds.specs.Forms.{IsBorneOut}
 use Rattle.loop_bounds.specs.Turns.{Setting, Goes, Comes, AreFit, IsBaseWord, IsMoved}
 use Rattle.loop_bounds.proofs.Steps.{both_true, kept, is_entered}

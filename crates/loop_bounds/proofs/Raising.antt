@@ -7,11 +7,11 @@ use Rattle.flow_code.specs.declared.act.Instr.{Instr}
 use Rattle.flow_code.specs.declared.code.LoopInfo.{LoopInfo}
 use Rattle.flow_code.specs.declared.work.Work.{Work}
 use Rattle.flow_code.specs.declared.work.Work.TheVariants as work
-use Rattle.abstract_machine.specs.declared.operator.BinaryOp.TheVariants as op
-use Rattle.abstract_machine.specs.Values.{number, word}
-use Rattle.abstract_machine.specs.Registers.{register}
+use Rattle.word_semantics.specs.declared.operator.BinaryOp.TheVariants as op
+use Rattle.word_semantics.specs.Values.{number, word}
+use Rattle.word_semantics.specs.Registers.{register}
 use Rattle.facts.specs.Blocks.{assigns}
-use Rattle.weak_facts.specs.Loops.{nth}
+use Rattle.weak_lock_facts.specs.Loops.{nth}
 use Rattle.loop_bounds.specs.Forms.{IsBorneOut, IsLastPart}
 use Rattle.loop_bounds.specs.Turns.{Setting, Goes, Comes, AreFit}
 use Rattle.loop_bounds.proofs.Steps.{kept, same_register}

@@ -3,7 +3,7 @@ use Rattle.std.proofs.Common.{◌≡◌, ℕ, ◌<◌, ◌≤◌, List, Option, 
 use Rattle.std.proofs.lemmas.Bool.{cases_lt}
 use Rattle.flow_code.specs.declared.act.Act.{Act}
 use Rattle.flow_code.specs.declared.act.Instr.{Instr}
-use Rattle.weak_facts.specs.Loops.{nth}
+use Rattle.weak_lock_facts.specs.Loops.{nth}
 use Rattle.loop_bounds.specs.Forms.{IsEnteredAt}
 use Rattle.loop_bounds.specs.Turns.{Setting, Goes, Comes, begins, goes}
 use Rattle.loop_bounds.proofs.Steps.{onward}

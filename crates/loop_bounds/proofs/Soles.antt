@@ -11,8 +11,8 @@ use Rattle.flow_code.specs.Next.{act_in}
 use Rattle.facts.specs.Blocks.{assigns}
 use Rattle.facts.proofs.Marked.{take_all}
 use Rattle.loop_bounds.specs.Tables.{one_more, makers_in, the_one, sole_maker}
-use Rattle.weak_facts.specs.Loops.{◌>>=◌, nth, is_entered_at}
-use Rattle.weak_facts.specs.Ranges.{last_maker, has_one_maker, only_maker}
+use Rattle.weak_lock_facts.specs.Loops.{◌>>=◌, nth, is_entered_at}
+use Rattle.weak_lock_facts.specs.Ranges.{last_maker, has_one_maker, only_maker}
 
 got : (is : List Instr) (n : ℕ) → n < length is → (i : Instr) × (slice_get is n ≡ Some i)
 got [] n lt = absurd (omega arith)

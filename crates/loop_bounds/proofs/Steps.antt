@@ -8,10 +8,10 @@ use Rattle.flow_code.specs.declared.act.Act.{Act}
 use Rattle.flow_code.specs.declared.act.Act.TheVariants as act
 use Rattle.flow_code.specs.declared.act.Instr.{Instr}
 use Rattle.flow_code.specs.Next.{act_in, branch_to}
-use Rattle.abstract_machine.specs.Registers.{register}
+use Rattle.word_semantics.specs.Registers.{register}
 use Rattle.facts.specs.Blocks.{assigns, assigned, is_register, goes_to}
 use Rattle.facts.specs.Paths.{is_never_assigned}
-use Rattle.weak_facts.specs.Loops.{nth, goes_into, none_goes_into, is_entered_at, is_within}
+use Rattle.weak_lock_facts.specs.Loops.{nth, goes_into, none_goes_into, is_entered_at, is_within}
 use Rattle.loop_bounds.specs.Forms.{IsEnteredAt}
 use Rattle.loop_bounds.specs.Turns.{Setting, Goes}
 

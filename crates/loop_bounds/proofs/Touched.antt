@@ -11,11 +11,11 @@ use Rattle.flow_code.specs.declared.code.Code.{Code}
 use Rattle.flow_code.specs.declared.code.Function.{Function}
 use Rattle.flow_code.specs.declared.code.LoopInfo.{LoopInfo}
 use Rattle.flow_code.specs.declared.work.Work.TheVariants as work
-use Rattle.abstract_machine.specs.Registers.{register}
+use Rattle.word_semantics.specs.Registers.{register}
 use Rattle.facts.specs.PointsTo.{Tables, list_at}
-use Rattle.weak_facts.specs.declared.range.Range.{Range}
-use Rattle.weak_facts.specs.Loops.{nth, loop_code, is_counted, counted_of}
-use Rattle.weak_facts.specs.Ranges.{is_number, mark_before, is_innermost, calls_nothing, loop_round, pointer_of, only_maker, moved_shift, have_single_cells, range, range_in, range_at}
+use Rattle.weak_lock_facts.specs.declared.range.Range.{Range}
+use Rattle.weak_lock_facts.specs.Loops.{nth, loop_code, is_counted, counted_of}
+use Rattle.weak_lock_facts.specs.Ranges.{is_number, mark_before, is_innermost, calls_nothing, loop_round, pointer_of, only_maker, moved_shift, have_single_cells, range, range_in, range_at}
 use Rattle.loop_bounds.specs.Forms.{IsBorneOut}
 use Rattle.loop_bounds.specs.Turns.{Setting, Comes, AreFit, IsElement}
 use Rattle.loop_bounds.proofs.Steps.{both_true}

@@ -6,9 +6,9 @@ use Rattle.flow_code.specs.declared.act.Act.TheVariants as act
 use Rattle.flow_code.specs.declared.act.Instr.{Instr}
 use Rattle.flow_code.specs.declared.code.LoopInfo.{LoopInfo}
 use Rattle.flow_code.specs.declared.work.Work.TheVariants as work
-use Rattle.abstract_machine.specs.Registers.{register}
+use Rattle.word_semantics.specs.Registers.{register}
 use Rattle.facts.specs.Blocks.{assigns}
-use Rattle.weak_facts.specs.Loops.{nth}
+use Rattle.weak_lock_facts.specs.Loops.{nth}
 use Rattle.loop_bounds.specs.Forms.{IsBorneOut, IsLastPart}
 use Rattle.loop_bounds.specs.Turns.{Setting, Goes, Comes}
 use Rattle.loop_bounds.proofs.Steps.{kept}

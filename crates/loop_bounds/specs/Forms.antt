@@ -7,9 +7,9 @@ use Rattle.flow_code.specs.declared.code.LoopInfo.{LoopInfo}
 use Rattle.flow_code.specs.declared.region.Bound.{Bound}
 use Rattle.flow_code.specs.declared.region.Bound.TheVariants as bound
 use Rattle.flow_code.specs.declared.work.Work.TheVariants as work
-use Rattle.abstract_machine.specs.declared.operator.BinaryOp.TheVariants as op
+use Rattle.word_semantics.specs.declared.operator.BinaryOp.TheVariants as op
 use Rattle.facts.specs.Blocks.{assigns, goes_to}
-use Rattle.weak_facts.specs.Loops.{nth, bound_size, condition_end}
+use Rattle.weak_lock_facts.specs.Loops.{nth, bound_size, condition_end}
 
 -- the bound is in the register: a number is put there by the instruction
 abbrev pub HasBound : Bound → Option Act → ℕ → Type 0

@@ -6,8 +6,8 @@ use Rattle.flow_code.specs.declared.act.Instr.{Instr}
 use Rattle.flow_code.specs.declared.code.LoopInfo.{LoopInfo}
 use Rattle.facts.specs.Blocks.{is_target, assigns}
 use Rattle.loop_bounds.specs.declared.ways.Ways.{Ways}
-use Rattle.weak_facts.specs.Loops.{loop_code, nth}
-use Rattle.weak_facts.specs.Ranges.{mark_before, calls_nothing, moved_of, maker_at}
+use Rattle.weak_lock_facts.specs.Loops.{loop_code, nth}
+use Rattle.weak_lock_facts.specs.Ranges.{mark_before, calls_nothing, moved_of, maker_at}
 
 -- each is the place after the last jump or branch that goes to the instruction in its place, or 0 if none does
 abbrev pub AreEnds : List Instr → List ℕ → Type 0

@@ -14,14 +14,14 @@ use Rattle.flow_code.specs.declared.region.Base.TheVariants as base
 use Rattle.flow_code.specs.declared.work.Work.{Work}
 use Rattle.flow_code.specs.declared.work.Work.TheVariants as work
 use Rattle.flow_code.specs.Next.{branch_to}
-use Rattle.abstract_machine.specs.Pointers.{moved_by}
-use Rattle.abstract_machine.specs.Values.{number}
+use Rattle.word_semantics.specs.Pointers.{moved_by}
+use Rattle.word_semantics.specs.Values.{number}
 use Rattle.flow_code.specs.Works.{work_of}
-use Rattle.abstract_machine.specs.Registers.{register}
-use Rattle.abstract_machine.specs.Operators.{based}
+use Rattle.word_semantics.specs.Registers.{register}
+use Rattle.word_semantics.specs.Operators.{based}
 use Rattle.facts.specs.Blocks.{assigned, assigns}
-use Rattle.weak_facts.specs.declared.range.Range.{Range}
-use Rattle.weak_facts.specs.Loops.{nth, is_counted}
+use Rattle.weak_lock_facts.specs.declared.range.Range.{Range}
+use Rattle.weak_lock_facts.specs.Loops.{nth, is_counted}
 
 -- what the words that a function computes rest on: the slots of the run, the sites of the code, and the kinds of its registers
 pub record Setting : Type 0 where

@@ -3,10 +3,10 @@ ghost use Rattle.std.specs.Prelude.{◌≡◌, ◌<◌, ◌+◌, ◌^◌, ◌++�
 ghost use Rattle.std.specs.Option.{option_copied};
 ghost use Rattle.facts.specs.Blocks.{AreAmounts};
 ghost use Rattle.facts.specs.PointsTo.{list_at, HasRegisters};
-ghost use Rattle.weak_facts.specs.Loops as loops;
+ghost use Rattle.weak_lock_facts.specs.Loops as loops;
 ghost use Rattle.flow_code.specs.declared.act.Instr.{Instr as Step};
 ghost use Rattle.loop_bounds.specs.Tables.{AreWays, AreMakers, AreOperands, AreRounds, AreCalm, AreHeads, calm_loops};
-ghost use Rattle.weak_facts.specs.Ranges as spec;
+ghost use Rattle.weak_lock_facts.specs.Ranges as spec;
 
 use crate::acts::pointer_of;
 use crate::heads::{Heads, heads_of};
@@ -17,12 +17,12 @@ use crate::rounds::rounds_of;
 use crate::shifts::moved_shift;
 use crate::spans::{calls_nothing, loop_code};
 use crate::ways::{Ways, ways_of};
-use abstract_machine::site_at;
+use word_semantics::site_at;
 use facts::{PointsTo, amounts, block_starts};
 use flow_code::{Act, Code, Function, Instr, LoopInfo};
 use rr_base::{List, Place, sum};
 use std::alloc::{AllocError, Global};
-use weak_facts::Range;
+use weak_lock_facts::Range;
 
 // Whether the loop is the innermost one of any kind round the instruction, whose innermost loop begins with this Mark.
 fn is_innermost(round: Option<usize>, at: usize, counted: &LoopInfo) -> bool

@@ -4,10 +4,10 @@ ghost use Rattle.std.specs.Option.{option_copied};
 ghost use Rattle.flow_code.specs.Next.{act_in};
 ghost use Rattle.flow_code.specs.Order as order;
 ghost use Rattle.facts.specs.Blocks as blocks;
-ghost use Rattle.weak_facts.specs.Loops as loops;
-ghost use Rattle.weak_facts.specs.Ranges as ranges;
+ghost use Rattle.weak_lock_facts.specs.Loops as loops;
+ghost use Rattle.weak_lock_facts.specs.Ranges as ranges;
 
-use abstract_machine::BinaryOp;
+use word_semantics::BinaryOp;
 use flow_code::{Act, Bound, Instr, Work};
 
 /// What the instruction at a place does.

@@ -3,7 +3,7 @@ ghost use Rattle.std.specs.Prelude.{◌≡◌, ◌+◌, ◌<◌, ◌^◌, true};
 ghost use Rattle.flow_code.specs.Kinds as kinds;
 ghost use Rattle.flow_code.specs.Regions as regions;
 ghost use Rattle.loop_bounds.specs.Tables.{AreWays};
-ghost use Rattle.weak_facts.specs.Loops as spec;
+ghost use Rattle.weak_lock_facts.specs.Loops as spec;
 
 use crate::acts::{
     bound_into, bound_size, copy_into, is_any_copy, is_branch, is_copy, is_jump, is_mark,

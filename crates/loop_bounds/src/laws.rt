@@ -4,12 +4,12 @@ ghost use Rattle.flow_code.specs.declared.act.Act.{Act};
 ghost use Rattle.flow_code.specs.declared.code.Code.{Code};
 ghost use Rattle.flow_code.specs.declared.code.Function.{Function};
 ghost use Rattle.flow_code.specs.declared.code.LoopInfo.{LoopInfo};
-ghost use Rattle.abstract_machine.specs.Values.{number};
-ghost use Rattle.abstract_machine.specs.Registers.{register};
+ghost use Rattle.word_semantics.specs.Values.{number};
+ghost use Rattle.word_semantics.specs.Registers.{register};
 ghost use Rattle.facts.specs.PointsTo.{Tables};
-ghost use Rattle.weak_facts.specs.declared.range.Range.{Range};
-ghost use Rattle.weak_facts.specs.Loops.{nth, is_counted, keeps, counted_of};
-ghost use Rattle.weak_facts.specs.Ranges.{pointer_of, range_at};
+ghost use Rattle.weak_lock_facts.specs.declared.range.Range.{Range};
+ghost use Rattle.weak_lock_facts.specs.Loops.{nth, is_counted, keeps, counted_of};
+ghost use Rattle.weak_lock_facts.specs.Ranges.{pointer_of, range_at};
 ghost use Rattle.loop_bounds.specs.Forms.{IsBorneOut};
 ghost use Rattle.loop_bounds.specs.Turns.{Setting, Comes, AreFit, IsElement};
 

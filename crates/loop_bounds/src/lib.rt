@@ -1,5 +1,5 @@
 //! The counted loops of a code, and the accesses in them whose elements are known where the loop is entered. It stands on
-//! `rr_base`, `flow_code`, `facts` and `weak_facts`.
+//! `rr_base`, `flow_code`, `facts` and `weak_lock_facts`.
 #![tactic(auto)]
 
 mod accesses;

@@ -1,14 +1,14 @@
 //! The counted loops of a code.
 ghost use Rattle.std.specs.Prelude.{◌≡◌, ◌+◌, ◌++◌, map, IfOk, OnOk};
 ghost use Rattle.loop_bounds.specs.Tables.{AreWays};
-ghost use Rattle.weak_facts.specs.Loops as spec;
+ghost use Rattle.weak_lock_facts.specs.Loops as spec;
 
 use crate::counted::is_counted;
 use crate::ways::{Ways, ways_of};
 use flow_code::{Code, Function, LoopInfo};
 use rr_base::{List, sum};
 use std::alloc::{AllocError, Global};
-use weak_facts::LoopAt;
+use weak_lock_facts::LoopAt;
 
 /// The counted loops of a function.
 pub fn counted_of(

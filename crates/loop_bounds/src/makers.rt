@@ -6,8 +6,8 @@ ghost use Rattle.facts.specs.Blocks.{AreStarts};
 ghost use Rattle.facts.specs.Blocks as blocks;
 ghost use Rattle.loop_bounds.specs.Tables as tables;
 ghost use Rattle.loop_bounds.specs.Tables.{AreWays, AreMakers};
-ghost use Rattle.weak_facts.specs.Loops as loops;
-ghost use Rattle.weak_facts.specs.Ranges as spec;
+ghost use Rattle.weak_lock_facts.specs.Loops as loops;
+ghost use Rattle.weak_lock_facts.specs.Ranges as spec;
 
 use crate::acts::{assigned, assigns, nth};
 use crate::spans::keeps;

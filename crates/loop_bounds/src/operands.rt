@@ -3,7 +3,7 @@ ghost use Rattle.std.specs.Prelude.{◌≡◌, ◌==◌, ℕ, nat_eq, if◌then�
 ghost use Rattle.std.specs.HashMap.{get};
 ghost use Rattle.facts.specs.Blocks.{AreStarts, assigns as assigns_of};
 ghost use Rattle.loop_bounds.specs.Tables.{AreOperands};
-ghost use Rattle.weak_facts.specs.Ranges as spec;
+ghost use Rattle.weak_lock_facts.specs.Ranges as spec;
 
 use crate::acts::{assigned, moved_of};
 use flow_code::{Act, Instr};

@@ -2,7 +2,7 @@
 ghost use Rattle.std.specs.Prelude.{◌≡◌, ◌<◌, ◌^◌, length, IfOk};
 ghost use Rattle.loop_bounds.specs.Tables as tables;
 ghost use Rattle.loop_bounds.specs.Tables.{AreEnds, AreRounds};
-ghost use Rattle.weak_facts.specs.Ranges as spec;
+ghost use Rattle.weak_lock_facts.specs.Ranges as spec;
 
 use crate::acts::{is_mark, nth};
 use flow_code::Instr;

@@ -4,11 +4,11 @@ ghost use Rattle.std.specs.Option.{option_copied};
 ghost use Rattle.facts.specs.Blocks.{AreAmounts, amount_by, constant_at};
 ghost use Rattle.flow_code.specs.declared.act.Instr.{Instr as Step};
 ghost use Rattle.loop_bounds.specs.Tables.{AreMakers, AreOperands};
-ghost use Rattle.weak_facts.specs.Ranges as spec;
+ghost use Rattle.weak_lock_facts.specs.Ranges as spec;
 
 use crate::acts::{moved_of, nth};
 use crate::makers::{Makers, is_kept};
-use abstract_machine::BinaryOp;
+use word_semantics::BinaryOp;
 use flow_code::{Act, Base, Instr, LoopInfo, Work};
 
 /// The address of a global, or a register that the loop keeps.

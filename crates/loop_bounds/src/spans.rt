@@ -1,8 +1,8 @@
 //! Parts of a function's instructions: what they assign and call, and where one enters them.
 ghost use Rattle.std.specs.Prelude.{◌≡◌, ◌+◌, ◌<◌, ◌^◌, take, drop, slice_range, length, IsTrue};
 ghost use Rattle.facts.specs.Paths as paths;
-ghost use Rattle.weak_facts.specs.Loops as loops;
-ghost use Rattle.weak_facts.specs.Ranges as ranges;
+ghost use Rattle.weak_lock_facts.specs.Loops as loops;
+ghost use Rattle.weak_lock_facts.specs.Ranges as ranges;
 
 use crate::acts::{assigns, is_call};
 use flow_code::{Act, Bound, Instr, LoopInfo};

@@ -2,7 +2,7 @@
 ghost use Rattle.std.specs.Prelude.{◌≡◌, ◌<◌, ◌+◌, ◌^◌, ◌==◌, ◌||◌, ℕ, if◌then◌else◌, length, slice_index_or, nat_lt, IfOk};
 ghost use Rattle.facts.specs.Blocks.{goes_to};
 ghost use Rattle.loop_bounds.specs.Tables.{AreFirsts, AreEnds, AreWays};
-ghost use Rattle.weak_facts.specs.Loops as loops;
+ghost use Rattle.weak_lock_facts.specs.Loops as loops;
 
 use flow_code::{Act, Instr};
 use std::alloc::{AllocError, Global};

@@ -15,13 +15,13 @@ use Rattle.flow_code.specs.declared.work.Work.TheVariants as work
 use Rattle.flow_code.specs.Next.{branch_to}
 use Rattle.flow_code.specs.Stripes.{bound_of}
 use Rattle.flow_code.specs.Works.{is_pointer, work_of}
-use Rattle.abstract_machine.specs.declared.operator.BinaryOp.TheVariants as op
-use Rattle.abstract_machine.specs.Operators.{either_binary_of}
-use Rattle.abstract_machine.specs.Registers.{register}
-use Rattle.abstract_machine.specs.Values.{number, word, truth}
+use Rattle.word_semantics.specs.declared.operator.BinaryOp.TheVariants as op
+use Rattle.word_semantics.specs.Operators.{either_binary_of}
+use Rattle.word_semantics.specs.Registers.{register}
+use Rattle.word_semantics.specs.Values.{number, word, truth}
 use Rattle.facts.specs.Blocks.{assigns}
-use Rattle.weak_facts.specs.Loops.{nth, bound_size, condition_end}
-use Rattle.weak_facts.specs.Ranges.{pointer_of}
+use Rattle.weak_lock_facts.specs.Loops.{nth, bound_size, condition_end}
+use Rattle.weak_lock_facts.specs.Ranges.{pointer_of}
 use Rattle.loop_bounds.specs.Forms.{HasBound, IsCondition}
 use Rattle.loop_bounds.specs.Turns.{Setting, Goes, Comes, AreFit}
 use Rattle.loop_bounds.proofs.Steps.{same_register}

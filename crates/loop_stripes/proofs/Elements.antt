@@ -11,12 +11,12 @@ use Rattle.flow_code.specs.declared.code.LoopInfo.{LoopInfo}
 use Rattle.flow_code.specs.declared.region.Base.{Base}
 use Rattle.flow_code.specs.declared.region.Base.TheVariants as base
 use Rattle.flow_code.specs.declared.work.Work.TheVariants as work
-use Rattle.abstract_machine.specs.Pointers.{moved_by}
-use Rattle.abstract_machine.specs.Registers.{register}
-use Rattle.abstract_machine.specs.Values.{number}
+use Rattle.word_semantics.specs.Pointers.{moved_by}
+use Rattle.word_semantics.specs.Registers.{register}
+use Rattle.word_semantics.specs.Values.{number}
 use Rattle.facts.specs.Blocks.{assigns}
-use Rattle.weak_facts.specs.Loops.{nth, keeps, is_entered_at}
-use Rattle.weak_facts.specs.Ranges.{maker_at, made_at, base_of, base_at, shift_at, moved_of, moved_shift, last_maker, has_one_maker, only_maker, pointer_of}
+use Rattle.weak_lock_facts.specs.Loops.{nth, keeps, is_entered_at}
+use Rattle.weak_lock_facts.specs.Ranges.{maker_at, made_at, base_of, base_at, shift_at, moved_of, moved_shift, last_maker, has_one_maker, only_maker, pointer_of}
 use Rattle.weak_code.specs.Stretches.{moved_from, origin_of, origin_after, base_after, element_base}
 use Rattle.loop_bounds.specs.Turns.{Setting, Goes, Comes}
 use Rattle.loop_bounds.proofs.Steps.{both_true, kept, is_entered}

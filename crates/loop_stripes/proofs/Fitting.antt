@@ -13,25 +13,25 @@ use Rattle.flow_code.specs.declared.work.Work.TheVariants as work
 use Rattle.flow_code.specs.Addresses.{is_address, globals_fit}
 use Rattle.flow_code.specs.Constants.{constant_fits, constants_fit_in, constants_fit}
 use Rattle.flow_code.specs.Kinds.{has_register, has_pointer, has_whole, has_kind, same_register_kind, is_null, is_site, work_fits, value_fits, call_fits, library_value_fits, starts_fit, have_kinds, formal_kinds, act_fits}
-use Rattle.abstract_machine.specs.Kinds.{is_comparison, library_kinds}
+use Rattle.word_semantics.specs.Kinds.{is_comparison, library_kinds}
 use Rattle.flow_code.specs.Next.{act_in}
 use Rattle.flow_code.specs.Threads.{is_main_in}
 use Rattle.flow_code.specs.Valid.{is_valid, is_within_limits, all_locks_fit, has_one_main, functions_fit, function_fits}
 use Rattle.flow_code.proofs.Objects.{address_site, address_whole}
 use Rattle.flow_code.proofs.ValidParts.{few_sites, few_globals}
-use Rattle.abstract_machine.specs.Layouts.{sites_fit}
+use Rattle.word_semantics.specs.Layouts.{sites_fit}
 use Rattle.flow_code.specs.Works.{is_pointer}
-use Rattle.abstract_machine.specs.declared.library_call.LibraryCall.{LibraryCall}
-use Rattle.abstract_machine.specs.declared.library_call.LibraryCall.TheVariants as call
-use Rattle.abstract_machine.specs.Cells.{size_of}
-use Rattle.abstract_machine.specs.Operators.{based}
-use Rattle.abstract_machine.specs.Pointers.{pointer_at}
+use Rattle.word_semantics.specs.declared.library_call.LibraryCall.{LibraryCall}
+use Rattle.word_semantics.specs.declared.library_call.LibraryCall.TheVariants as call
+use Rattle.word_semantics.specs.Cells.{size_of}
+use Rattle.word_semantics.specs.Operators.{based}
+use Rattle.word_semantics.specs.Pointers.{pointer_at}
 use Rattle.facts.specs.Blocks.{is_register, assigns}
-use Rattle.weak_facts.specs.Loops.{nth}
+use Rattle.weak_lock_facts.specs.Loops.{nth}
 use Rattle.loop_bounds.specs.Turns.{AreFit}
 use Rattle.loop_bounds.proofs.Pointing.{fits_signed}
-use Rattle.weak_sound.proofs.Tests.{both, all_at}
-use Rattle.weak_sound.proofs.Valid.{parts}
+use Rattle.weak_valid.proofs.Tests.{both, all_at}
+use Rattle.weak_valid.proofs.Valid.{parts}
 
 -- ---- registers
 

@@ -12,15 +12,15 @@ use Rattle.flow_code.specs.declared.code.LoopInfo.{LoopInfo}
 use Rattle.flow_code.specs.Next.{act_in}
 use Rattle.flow_code.specs.Order.{is_mark}
 use Rattle.facts.specs.Blocks.{assigns, is_target}
-use Rattle.weak_facts.specs.Loops.{nth, is_counted, counted_of}
-use Rattle.weak_facts.specs.Ranges.{begins_round, mark_before, is_number, loop_round, pointer_of}
+use Rattle.weak_lock_facts.specs.Loops.{nth, is_counted, counted_of}
+use Rattle.weak_lock_facts.specs.Ranges.{begins_round, mark_before, is_number, loop_round, pointer_of}
 use Rattle.loop_bounds.specs.Forms.{IsBorneOut}
 use Rattle.loop_bounds.proofs.Steps.{drop_got}
 use Rattle.loop_bounds.proofs.Making.{targeted}
 use Rattle.loop_bounds.proofs.Turning.{far}
-use Rattle.weak_sound.proofs.Accesses.{filtered}
-use Rattle.weak_sound.proofs.CountedLoops.{round_listed, innermost_in}
-use Rattle.weak_sound.proofs.Tests.{both, two}
+use Rattle.weak_valid.proofs.Accesses.{filtered}
+use Rattle.weak_valid.proofs.CountedLoops.{round_listed, innermost_in}
+use Rattle.weak_valid.proofs.Tests.{both, two}
 
 -- of the Marks before m with which a loop round the k-th instruction begins the last is found
 mark_last : (is : List Instr) (k m n j : ℕ) → mark_before is k m ≡ Some n → j < m → begins_round is k j ≡ true → j ≤ n

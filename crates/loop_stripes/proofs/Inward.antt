@@ -10,10 +10,10 @@ use Rattle.flow_code.specs.declared.code.Function.{Function}
 use Rattle.flow_code.specs.declared.code.LoopInfo.{LoopInfo}
 use Rattle.flow_code.specs.Kinds.{has_whole}
 use Rattle.flow_code.specs.Regions.{bound_is_whole}
-use Rattle.abstract_machine.specs.Registers.{register}
-use Rattle.abstract_machine.specs.Values.{number}
+use Rattle.word_semantics.specs.Registers.{register}
+use Rattle.word_semantics.specs.Values.{number}
 use Rattle.facts.specs.Blocks.{assigns}
-use Rattle.weak_facts.specs.Loops.{nth, are_numbers, has_form, keeps_numbers, is_entered_so, is_counted}
+use Rattle.weak_lock_facts.specs.Loops.{nth, are_numbers, has_form, keeps_numbers, is_entered_so, is_counted}
 use Rattle.loop_bounds.specs.Forms.{IsBorneOut}
 use Rattle.loop_bounds.specs.Turns.{Setting, Goes, Comes}
 use Rattle.loop_bounds.specs.Turns as turns

@@ -14,19 +14,19 @@ use Rattle.flow_code.specs.declared.region.Bound.TheVariants as bound
 use Rattle.flow_code.specs.Kinds.{has_register}
 use Rattle.flow_code.specs.Stripes.{bound_of}
 use Rattle.flow_code.specs.Works.{is_pointer}
-use Rattle.abstract_machine.specs.Registers.{register}
-use Rattle.abstract_machine.specs.Values.{number}
+use Rattle.word_semantics.specs.Registers.{register}
+use Rattle.word_semantics.specs.Values.{number}
 use Rattle.facts.specs.PointsTo.{Tables, list_at}
-use Rattle.weak_facts.specs.declared.range.Range.{Range}
-use Rattle.weak_facts.specs.Loops.{nth, keeps, is_counted, counted_of}
-use Rattle.weak_facts.specs.Ranges.{loop_round, pointer_of, only_maker, moved_shift, have_single_cells, range, range_in, range_at}
+use Rattle.weak_lock_facts.specs.declared.range.Range.{Range}
+use Rattle.weak_lock_facts.specs.Loops.{nth, keeps, is_counted, counted_of}
+use Rattle.weak_lock_facts.specs.Ranges.{loop_round, pointer_of, only_maker, moved_shift, have_single_cells, range, range_in, range_at}
 use Rattle.weak_code.specs.Stretches.{element_base}
 use Rattle.loop_bounds.specs.Forms.{IsBorneOut}
 use Rattle.loop_bounds.specs.Turns.{Setting, AreFit}
 use Rattle.loop_bounds.proofs.Steps.{both_true, not_true}
 use Rattle.loop_bounds.proofs.Borne.{cond_some, kept_there, borne_out}
 use Rattle.loop_bounds.proofs.Pointing.{IsTurn}
-use Rattle.weak_sound.proofs.RegionsFit.{counted_loop}
+use Rattle.weak_valid.proofs.RegionsFit.{counted_loop}
 use Rattle.loop_stripes.specs.Inside.{Inside}
 use Rattle.loop_stripes.specs.InRange.{HasBase, IsInRange}
 use Rattle.loop_stripes.proofs.Counting.{before_bound, access_past, access_before}

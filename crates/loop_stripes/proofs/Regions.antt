@@ -17,14 +17,14 @@ use Rattle.flow_code.specs.Next.{act_in}
 use Rattle.flow_code.specs.Threads.{objects_of}
 use Rattle.facts.specs.Accesses.{Access, access_of}
 use Rattle.facts.specs.PointsTo.{Tables}
-use Rattle.weak_facts.specs.declared.grain.Grain.TheVariants as grain
-use Rattle.weak_facts.specs.declared.range.Range.{Range}
-use Rattle.weak_facts.specs.Loops.{nth, is_counted, counted_of}
-use Rattle.weak_facts.specs.Ranges.{pointer_of, range_at, ranges_in, ranges_from, ranges_of}
+use Rattle.weak_lock_facts.specs.declared.grain.Grain.TheVariants as grain
+use Rattle.weak_lock_facts.specs.declared.range.Range.{Range}
+use Rattle.weak_lock_facts.specs.Loops.{nth, is_counted, counted_of}
+use Rattle.weak_lock_facts.specs.Ranges.{pointer_of, range_at, ranges_in, ranges_from, ranges_of}
 use Rattle.weak_code.specs.declared.stretch.RacyAccess.{RacyAccess}
 use Rattle.weak_code.specs.declared.stretch.Stretch.{Stretch}
 use Rattle.weak_code.specs.Stretches.{same_grain, with_grain, all_locks, span_of, spans_of, loop_stretch, loop_stretches, block_from, block_stretch, block_stretches, access_stretch, access_stretches, function_stretch, stretches_of}
-use Rattle.weak_sound.proofs.Accesses.{Each, each_append, each_at, each_filter_map, IsFit, grain_at}
+use Rattle.weak_valid.proofs.Accesses.{Each, each_append, each_at, each_filter_map, IsFit, grain_at}
 
 -- ---- ranged regions
 

@@ -11,9 +11,9 @@ use Rattle.rr_base.proofs.WordLaws.{moved-site, moved-length}
 use Rattle.flow_code.specs.declared.code.Code.{Code}
 use Rattle.flow_code.specs.declared.code.LockInfo.{LockInfo}
 use Rattle.flow_code.specs.Stripes.{stripe_at, class_in, lock_guards, guards, points_to_cell, any_from, clamped, range_wants}
-use Rattle.abstract_machine.specs.Pointers.{site_at, known, moved, moved_by}
-use Rattle.abstract_machine.specs.Values.{fits}
-use Rattle.weak_sound.proofs.Tests.{both, two}
+use Rattle.word_semantics.specs.Pointers.{site_at, known, moved, moved_by}
+use Rattle.word_semantics.specs.Values.{fits}
+use Rattle.weak_valid.proofs.Tests.{both, two}
 use Rattle.loop_stripes.proofs.Fitting.{IsAlike}
 
 any_from_has : (p : ℕ → Bool) (m k n : ℕ) → k ≤ n → n < k + m → p n ≡ true → any_from p m k ≡ true

@@ -9,25 +9,25 @@ use Rattle.flow_code.specs.declared.act.Instr.{Instr}
 use Rattle.flow_code.specs.declared.code.LoopInfo.{LoopInfo}
 use Rattle.flow_code.specs.Next.{act_in}
 use Rattle.flow_code.specs.Order.{order_fits}
-use Rattle.abstract_machine.specs.Registers.{register}
+use Rattle.word_semantics.specs.Registers.{register}
 use Rattle.loop_bounds.specs.Turns.{Setting, Goes}
 use Rattle.weak_code.specs.declared.stretch.Stretch.{Stretch}
 use Rattle.weak_code.specs.Places.{begins_at, covers, beginning, ending, gives, takes, left, turned, before, numbers_from, enter}
 use Rattle.weak_code.specs.Stripped.{is_weak, plain_of}
 use Rattle.weak_code.specs.Weakened.{retarget, weakened_instrs}
 use Rattle.weak_code.proofs.Stripping.{IsPlain, ArePlain, plain_place, plain_seat, plain_enter, not_weak, weak_before}
-use Rattle.weak_sound.proofs.Tests.{both, got_map}
-use Rattle.weak_sound.proofs.OrderFits.{plain_at, weak_at}
-use Rattle.weak_ways.specs.Guards.{IsSeat}
-use Rattle.weak_ways.specs.Walked.{Opening, opened_with, Walked}
-use Rattle.weak_ways.specs.Walked as walked
-use Rattle.weak_ways.proofs.Guarded.{In}
-use Rattle.weak_ways.proofs.Nested.{IsIn}
-use Rattle.weak_ways.proofs.Opened.{of_append}
-use Rattle.weak_ways.proofs.Passing.{AreNested, Here, at_weak, at_plain, standing, along}
-use Rattle.weak_ways.proofs.Covered.{not_open}
-use Rattle.weak_ways.proofs.Walks.{numbers, way, weak_goes, in_numbers, of_closed, plain_opened, plain_next}
-use Rattle.weak_ways.proofs.Standing.{times, has_test, returns, stays}
+use Rattle.weak_valid.proofs.Tests.{both, got_map}
+use Rattle.weak_valid.proofs.OrderFits.{plain_at, weak_at}
+use Rattle.guard_paths.specs.Guards.{IsSeat}
+use Rattle.guard_paths.specs.Walked.{Opening, opened_with, Walked}
+use Rattle.guard_paths.specs.Walked as walked
+use Rattle.guard_paths.proofs.Guarded.{In}
+use Rattle.guard_paths.proofs.Nested.{IsIn}
+use Rattle.guard_paths.proofs.Opened.{of_append}
+use Rattle.guard_paths.proofs.Passing.{AreNested, Here, at_weak, at_plain, standing, along}
+use Rattle.guard_paths.proofs.Covered.{not_open}
+use Rattle.guard_paths.proofs.Walks.{numbers, way, weak_goes, in_numbers, of_closed, plain_opened, plain_next}
+use Rattle.guard_paths.proofs.Standing.{times, has_test, returns, stays}
 use Rattle.loop_stripes.specs.Inside.{Inside, enters, goes}
 
 -- ---- steps and lists

@@ -20,21 +20,21 @@ use Rattle.flow_code.specs.Constants.{constants_fit}
 use Rattle.flow_code.specs.Next.{act_in}
 use Rattle.flow_code.specs.Stripes.{guards, base_word, points_to_cell, among, range_wants, span_wants, bound_of, wants}
 use Rattle.flow_code.specs.Valid.{is_valid}
-use Rattle.abstract_machine.specs.Cells.{size_of}
-use Rattle.abstract_machine.specs.Operators.{based}
-use Rattle.abstract_machine.specs.Pointers.{known, pointer_at, moved_by}
-use Rattle.abstract_machine.specs.Registers.{register}
-use Rattle.abstract_machine.specs.Values.{number}
+use Rattle.word_semantics.specs.Cells.{size_of}
+use Rattle.word_semantics.specs.Operators.{based}
+use Rattle.word_semantics.specs.Pointers.{known, pointer_at, moved_by}
+use Rattle.word_semantics.specs.Registers.{register}
+use Rattle.word_semantics.specs.Values.{number}
 use Rattle.facts.specs.declared.pair.Pair.{Pair}
 use Rattle.profiles.specs.declared.profile.Profile.{Profile}
 use Rattle.facts.specs.Accesses.{access_of}
 use Rattle.facts.specs.PointsTo.{Tables}
-use Rattle.weak_facts.specs.declared.grain.Grain.TheVariants as grain
-use Rattle.weak_facts.specs.declared.grain.Grained.{Grained}
-use Rattle.weak_facts.specs.declared.range.Range.{Range}
-use Rattle.weak_facts.specs.Grains.{AreGrains}
-use Rattle.weak_facts.specs.Loops.{nth}
-use Rattle.weak_facts.specs.Ranges.{pointer_of, ranges_of}
+use Rattle.weak_lock_facts.specs.declared.grain.Grain.TheVariants as grain
+use Rattle.weak_lock_facts.specs.declared.grain.Grained.{Grained}
+use Rattle.weak_lock_facts.specs.declared.range.Range.{Range}
+use Rattle.weak_lock_facts.specs.Grains.{AreGrains}
+use Rattle.weak_lock_facts.specs.Loops.{nth}
+use Rattle.weak_lock_facts.specs.Ranges.{pointer_of, ranges_of}
 use Rattle.weak_code.specs.declared.stretch.RacyAccess.{RacyAccess}
 use Rattle.weak_code.specs.declared.stretch.Stretch.{Stretch}
 use Rattle.weak_code.specs.Stretches.{racy_accesses, stretches_of, span_with, element_base}
@@ -43,18 +43,18 @@ use Rattle.weak_code.specs.WeakLocks.{places_in}
 use Rattle.weak_code.specs.Weakened.{weakened_instrs, weakened_function, weakened}
 use Rattle.loop_bounds.specs.Turns.{Setting}
 use Rattle.loop_bounds.proofs.Borne.{borne_out}
-use Rattle.weak_sound.specs.Apart.{loops_ascend, loops_are_apart}
-use Rattle.weak_sound.proofs.Accesses.{Each, each_at, IsFit, accesses_fit}
-use Rattle.weak_sound.proofs.CountedLoops.{one_at_mark, loop_found, loop_known, loops_are_counted}
-use Rattle.weak_sound.proofs.Tests.{two, all_at, got_map}
-use Rattle.weak_ways.specs.Guards.{IsLoopOf, Guards, IsSeat}
-use Rattle.weak_ways.specs.LoopsClosed.{loops_are_closed}
-use Rattle.weak_ways.specs.Walked.{Opening, Walked}
-use Rattle.weak_ways.proofs.Closed.{row_grain}
-use Rattle.weak_ways.proofs.Covered.{IsReady, plain_here, order_here, nested_here, weakened_at}
-use Rattle.weak_ways.proofs.Guarded.{In, contains_in}
-use Rattle.weak_ways.proofs.Nested.{any_at}
-use Rattle.weak_ways.proofs.Spread.{HasRow, have_rows}
+use Rattle.weak_valid.specs.Apart.{loops_ascend, loops_are_apart}
+use Rattle.weak_valid.proofs.Accesses.{Each, each_at, IsFit, accesses_fit}
+use Rattle.weak_valid.proofs.CountedLoops.{one_at_mark, loop_found, loop_known, loops_are_counted}
+use Rattle.weak_valid.proofs.Tests.{two, all_at, got_map}
+use Rattle.guard_paths.specs.Guards.{IsLoopOf, Guards, IsSeat}
+use Rattle.guard_paths.specs.LoopsClosed.{loops_are_closed}
+use Rattle.guard_paths.specs.Walked.{Opening, Walked}
+use Rattle.guard_paths.proofs.Closed.{row_grain}
+use Rattle.guard_paths.proofs.Covered.{IsReady, plain_here, order_here, nested_here, weakened_at}
+use Rattle.guard_paths.proofs.Guarded.{In, contains_in}
+use Rattle.guard_paths.proofs.Nested.{any_at}
+use Rattle.guard_paths.proofs.Spread.{HasRow, have_rows}
 use Rattle.loop_stripes.specs.InRange.{HasBase, IsInRange}
 use Rattle.loop_stripes.specs.Inside.{Inside}
 use Rattle.loop_stripes.specs.Settings.{IsSettingOf}

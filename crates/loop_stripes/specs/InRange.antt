@@ -1,10 +1,10 @@
 -- What is known of the pointer of an access with a range, in whichever turn of its loop.
 use Rattle.std.specs.Prelude.{◌≡◌, ℕ, ℤ, ◌+ℤ◌, ◌≤ℤ◌, ◌<ℤ◌, List, Some, Ok}
 use Rattle.rr_base.specs.Words.{site_of}
-use Rattle.abstract_machine.specs.Operators.{based}
-use Rattle.abstract_machine.specs.Pointers.{moved_by}
-use Rattle.abstract_machine.specs.Registers.{register}
-use Rattle.abstract_machine.specs.Values.{number}
+use Rattle.word_semantics.specs.Operators.{based}
+use Rattle.word_semantics.specs.Pointers.{moved_by}
+use Rattle.word_semantics.specs.Registers.{register}
+use Rattle.word_semantics.specs.Values.{number}
 use Rattle.flow_code.specs.declared.act.Act.TheVariants as act
 use Rattle.flow_code.specs.declared.act.Instr.{Instr}
 use Rattle.flow_code.specs.declared.code.LoopInfo.{LoopInfo}
@@ -12,7 +12,7 @@ use Rattle.flow_code.specs.declared.region.Base.{Base}
 use Rattle.flow_code.specs.declared.region.Base.TheVariants as base
 use Rattle.flow_code.specs.declared.work.Work.TheVariants as work
 use Rattle.flow_code.specs.Stripes.{bound_of}
-use Rattle.weak_facts.specs.Loops.{nth}
+use Rattle.weak_lock_facts.specs.Loops.{nth}
 use Rattle.loop_bounds.specs.Turns.{Setting}
 
 -- the word is an address of the global that one of the instructions computes, or what the register has

@@ -1,5 +1,5 @@
 //! A counted loop's region takes, where the loop is entered, the stripe of each cell that its accesses touch in any turn. It
-//! stands on `loop_bounds`, which tells of one turn, and on `weak_ways`.
+//! stands on `loop_bounds`, which tells of one turn, and on `guard_paths`.
 #![tactic(auto)]
 
 mod laws;

@@ -3,11 +3,11 @@ use Rattle.std.proofs.Common.{◌≡◌, ℕ, ◌+◌, ◌≤◌, ◌<◌, Bool,
 use Rattle.std.proofs.lemmas.List.{length-set}
 use Rattle.std.proofs.lemmas.Bool.Decides.{nat_tests}
 use Rattle.sync_objects.specs.Setup.{SetupView}
-use Rattle.abstract_machine.specs.Registers.{register}
+use Rattle.word_semantics.specs.Registers.{register}
 use Rattle.flow_code.specs.Threads.{Frame, Thread}
 use Rattle.flow_code.specs.Next.{one_more, in_frame, past}
-use Rattle.c_core.specs.Core.{Function, Program}
-use Rattle.c_core.specs.Runs.{State, counted, with_value}
+use Rattle.core_tree.specs.Core.{Function, Program}
+use Rattle.core_tree.specs.Runs.{State, counted, with_value}
 use Rattle.flow_lower.specs.Lowered.{function_kinds}
 use Rattle.lower_sound.proofs.Machine.{same_register, other_register, Shows}
 use Rattle.lower_sound.proofs.Events.{sets, goes_to}

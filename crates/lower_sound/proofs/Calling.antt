@@ -5,10 +5,10 @@ use Rattle.flow_code.specs.declared.act.Act.TheVariants as act
 use Rattle.flow_code.specs.declared.thread.Phase.TheVariants as phase
 use Rattle.flow_code.specs.Threads.{Thread, line_of}
 use Rattle.flow_code.specs.Next.{past, given, act_at}
-use Rattle.abstract_machine.specs.Registers.{words_of}
-use Rattle.c_core.specs.Core.{Program}
-use Rattle.c_core.specs.Runs.{Run, State}
-use Rattle.c_core.specs.Meaning.{Calls}
+use Rattle.word_semantics.specs.Registers.{words_of}
+use Rattle.core_tree.specs.Core.{Program}
+use Rattle.core_tree.specs.Runs.{Run, State}
+use Rattle.core_tree.specs.Meaning.{Calls}
 use Rattle.flow_lower.specs.Lowered.{lowered}
 use Rattle.lower_sound.specs.Follows.{Follows}
 

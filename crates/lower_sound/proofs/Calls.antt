@@ -2,15 +2,15 @@
 use Rattle.std.proofs.Common.{◌≡◌, ℕ, zero, suc, ◌+◌, inr, ◌⊎◌, Bool, true, false, if◌then◌else◌, ◌==◌, nat_le, ℤ, List, length, Result, Ok, Err, refl}
 use Rattle.rr_base.specs.declared.trap.Trap.{Trap}
 use Rattle.rr_base.specs.declared.layout.CellKind.TheVariants as kind
-use Rattle.abstract_machine.specs.declared.library_call.LibraryCall.{LibraryCall}
-use Rattle.abstract_machine.specs.declared.library_call.LibraryCall.TheVariants as call
-use Rattle.abstract_machine.specs.declared.event.Due.{Due}
-use Rattle.abstract_machine.specs.declared.event.Due.TheVariants as due
-use Rattle.abstract_machine.specs.declared.event.Onward.{Onward}
-use Rattle.abstract_machine.specs.declared.event.Onward.TheVariants as onward
-use Rattle.abstract_machine.specs.Values.{number}
-use Rattle.abstract_machine.specs.Library.{Caller, argument, at_cell, cell_of, is_misuse, is_serial, is_joinable, most_printed, printed_piece, library_due, library_onward}
-use Rattle.abstract_machine.specs.Limits.{is_free_of_limit}
+use Rattle.word_semantics.specs.declared.library_call.LibraryCall.{LibraryCall}
+use Rattle.word_semantics.specs.declared.library_call.LibraryCall.TheVariants as call
+use Rattle.word_semantics.specs.declared.event.Due.{Due}
+use Rattle.word_semantics.specs.declared.event.Due.TheVariants as due
+use Rattle.word_semantics.specs.declared.event.Onward.{Onward}
+use Rattle.word_semantics.specs.declared.event.Onward.TheVariants as onward
+use Rattle.word_semantics.specs.Values.{number}
+use Rattle.word_semantics.specs.Library.{Caller, argument, at_cell, cell_of, is_misuse, is_serial, is_joinable, most_printed, printed_piece, library_due, library_onward}
+use Rattle.word_semantics.specs.Limits.{is_free_of_limit}
 
 -- there is a next step, and an operation in it is neither one with which a thread ends nor one on a stripe
 abbrev pub IsPlain : Due → Type 0

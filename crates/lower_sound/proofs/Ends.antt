@@ -9,17 +9,17 @@ use Rattle.sync_objects.specs.declared.operation.Op.TheVariants as op
 use Rattle.rr_base.specs.declared.trap.Trap.TheVariants as trap
 use Rattle.flow_code.specs.declared.act.Act.TheVariants as act
 use Rattle.flow_code.specs.declared.thread.Phase.TheVariants as phase
-use Rattle.abstract_machine.specs.declared.event.Due.TheVariants as due
-use Rattle.abstract_machine.specs.declared.event.Action.TheVariants as action
+use Rattle.word_semantics.specs.declared.event.Due.TheVariants as due
+use Rattle.word_semantics.specs.declared.event.Action.TheVariants as action
 use Rattle.flow_code.specs.Threads.{Frame, Thread, line_of, instr_at, line_in}
-use Rattle.abstract_machine.specs.Cells.{result_cell}
+use Rattle.word_semantics.specs.Cells.{result_cell}
 use Rattle.flow_code.specs.Threads as threads
 use Rattle.flow_code.specs.Next as next
 use Rattle.flow_code.specs.Next.{in_frame, act_at, act_due, act_after, due_of, stepped, listed, limited, owing, first_owed, phase_due, phase_after, after_due, one_more, one_made, value_of, end_due, end_onward}
-use Rattle.abstract_machine.specs.Limits.{most_entries, is_free_of_limit}
-use Rattle.c_core.specs.Core.{Function, Program}
-use Rattle.c_core.specs.Runs.{Run, does, traps, ends, State, is_free}
-use Rattle.c_core.specs.Meaning as meaning
+use Rattle.word_semantics.specs.Limits.{most_entries, is_free_of_limit}
+use Rattle.core_tree.specs.Core.{Function, Program}
+use Rattle.core_tree.specs.Runs.{Run, does, traps, ends, State, is_free}
+use Rattle.core_tree.specs.Meaning as meaning
 use Rattle.flow_lower.specs.Lowered.{lowered}
 use Rattle.lower_sound.specs.Follows.{Prints, Follows, here}
 use Rattle.lower_sound.proofs.Machine.{Shows, act_of, line_at}

@@ -8,21 +8,21 @@ use Rattle.rr_base.specs.declared.layout.CellKind.{CellKind}
 use Rattle.flow_code.specs.declared.act.Act.{Act}
 use Rattle.flow_code.specs.declared.act.Act.TheVariants as act
 use Rattle.flow_code.specs.declared.work.Work.{Work}
-use Rattle.abstract_machine.specs.declared.event.Due.{Due}
-use Rattle.abstract_machine.specs.declared.event.Due.TheVariants as due
-use Rattle.abstract_machine.specs.declared.event.Action.TheVariants as action
-use Rattle.abstract_machine.specs.Values.{word}
-use Rattle.abstract_machine.specs.Pointers.{resolved}
+use Rattle.word_semantics.specs.declared.event.Due.{Due}
+use Rattle.word_semantics.specs.declared.event.Due.TheVariants as due
+use Rattle.word_semantics.specs.declared.event.Action.TheVariants as action
+use Rattle.word_semantics.specs.Values.{word}
+use Rattle.word_semantics.specs.Pointers.{resolved}
 use Rattle.flow_code.specs.Works.{is_pointer, work_of}
-use Rattle.abstract_machine.specs.Registers.{register}
+use Rattle.word_semantics.specs.Registers.{register}
 use Rattle.flow_code.specs.Threads.{Frame, Thread, line_of}
 use Rattle.flow_code.specs.Next.{past, jumped, with_register, in_frame, act_due, act_after, due_of, action_of, action_at, stepped, limited, listed, owing, quiet_unless, load_due, store_due, computed, phase_after, after_due, one_more, branch_to}
-use Rattle.abstract_machine.specs.Limits.{most_entries}
-use Rattle.abstract_machine.specs.Cells.{access_kind}
+use Rattle.word_semantics.specs.Limits.{most_entries}
+use Rattle.word_semantics.specs.Cells.{access_kind}
 use Rattle.rr_base.specs.declared.position.Position.{Position}
-use Rattle.c_core.specs.Core.{Function, Program}
-use Rattle.c_core.specs.Runs.{Run, does, traps, State, M, result_at, event, counted, choose, is_free}
-use Rattle.c_core.specs.Meaning.{load_in, load_at, store_in, store_at}
+use Rattle.core_tree.specs.Core.{Function, Program}
+use Rattle.core_tree.specs.Runs.{Run, does, traps, State, M, result_at, event, counted, choose, is_free}
+use Rattle.core_tree.specs.Meaning.{load_in, load_at, store_in, store_at}
 use Rattle.flow_lower.specs.Lowered.{instr, lowered, function_kinds, body_code}
 use Rattle.lower_sound.specs.Follows.{here, Prints, Follows}
 use Rattle.lower_sound.proofs.Machine.{Shows, act_of, kinds_of, due_at, by_quiet, by_trap, line_at}

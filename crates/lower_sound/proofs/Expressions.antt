@@ -6,25 +6,25 @@ use Rattle.sync_objects.specs.Setup.{SetupView}
 use Rattle.rr_base.specs.declared.trap.Trap.TheVariants as trap
 use Rattle.flow_code.specs.declared.act.Act.TheVariants as act
 use Rattle.flow_code.specs.declared.act.Instr.{Instr}
-use Rattle.abstract_machine.specs.declared.library_call.LibraryCall.{LibraryCall}
-use Rattle.abstract_machine.specs.declared.event.Due.TheVariants as due
-use Rattle.abstract_machine.specs.Values.{number}
-use Rattle.abstract_machine.specs.Pointers.{pointer_at}
-use Rattle.abstract_machine.specs.Registers.{register}
+use Rattle.word_semantics.specs.declared.library_call.LibraryCall.{LibraryCall}
+use Rattle.word_semantics.specs.declared.event.Due.TheVariants as due
+use Rattle.word_semantics.specs.Values.{number}
+use Rattle.word_semantics.specs.Pointers.{pointer_at}
+use Rattle.word_semantics.specs.Registers.{register}
 use Rattle.flow_code.specs.Threads.{Frame, Thread}
-use Rattle.abstract_machine.specs.Cells.{size_of}
+use Rattle.word_semantics.specs.Cells.{size_of}
 use Rattle.flow_code.specs.Next.{malloc_due, act_due, act_after, allocated}
-use Rattle.abstract_machine.specs.Registers.{words_of}
-use Rattle.abstract_machine.specs.Cells.{is_size, cells_in}
+use Rattle.word_semantics.specs.Registers.{words_of}
+use Rattle.word_semantics.specs.Cells.{is_size, cells_in}
 use Rattle.rr_base.specs.declared.position.Position.{Position}
-use Rattle.c_core.specs.Core as core
-use Rattle.c_core.specs.Core.{Exp, null, object, global, load, unary, binary, move, advance, member, between, to_pointer, to_number, copy, both, either, conditional, comma, set_register, store, change_register, change_cell, call, library, allocate, Exps, no_exp, and_exp, Function, Program}
-use Rattle.c_core.specs.Runs.{Run, State}
-use Rattle.c_core.specs.Meaning as meaning
-use Rattle.c_core.specs.Meaning.{Calls, value, values}
-use Rattle.lower_parts.specs.Kept.{assigns, any_assigns, loses, copied_if, kept, all_kept}
+use Rattle.core_tree.specs.Core as core
+use Rattle.core_tree.specs.Core.{Exp, null, object, global, load, unary, binary, move, advance, member, between, to_pointer, to_number, copy, both, either, conditional, comma, set_register, store, change_register, change_cell, call, library, allocate, Exps, no_exp, and_exp, Function, Program}
+use Rattle.core_tree.specs.Runs.{Run, State}
+use Rattle.core_tree.specs.Meaning as meaning
+use Rattle.core_tree.specs.Meaning.{Calls, value, values}
+use Rattle.lowering_parts.specs.Kept.{assigns, any_assigns, loses, copied_if, kept, all_kept}
 use Rattle.flow_lower.specs.Lowered.{held, instr, lowered, function_kinds, body_code, exp_kinds, exps_kinds, width, exp_size, exps_size, exp_code, exps_code, value_registers, library_code}
-use Rattle.c_core.specs.Within.{IsWithinExp, AreWithin}
+use Rattle.core_tree.specs.Within.{IsWithinExp, AreWithin}
 use Rattle.lower_sound.specs.Follows.{Follows}
 use Rattle.lower_sound.proofs.Machine.{same_register, other_register, Shows, act_of, line_at, by_quiet, by_trap}
 use Rattle.lower_sound.proofs.Places.{HasAt, has_at, has_front, has_back}

@@ -5,18 +5,18 @@ use Rattle.std.proofs.lemmas.Option.{slice_get_within}
 use Rattle.flow_code.specs.declared.code.Code.{Code}
 use Rattle.flow_code.specs.declared.code.Function.{Function}
 use Rattle.flow_code.specs.declared.work.Work.TheVariants as work
-use Rattle.abstract_machine.specs.declared.operator.BinaryOp.{BinaryOp}
+use Rattle.word_semantics.specs.declared.operator.BinaryOp.{BinaryOp}
 use Rattle.flow_code.specs.Works.{is_pointer}
 use Rattle.flow_code.specs.Kinds.{has_register, has_pointer, has_whole, has_kind, same_register_kind, is_null, binary_fits, move_fits, between_fits, work_fits}
-use Rattle.abstract_machine.specs.Kinds.{is_comparison}
-use Rattle.c_core.specs.declared.value.UnaryOp.{UnaryOp}
-use Rattle.c_core.specs.declared.value.UnaryOp.TheVariants as unary_op
-use Rattle.c_core.specs.declared.value.Change.{Change}
-use Rattle.c_core.specs.declared.value.Change.TheVariants as change
-use Rattle.c_core.specs.Core.{Exp}
-use Rattle.c_core.specs.Meaning as meaning
+use Rattle.word_semantics.specs.Kinds.{is_comparison}
+use Rattle.core_tree.specs.declared.value.UnaryOp.{UnaryOp}
+use Rattle.core_tree.specs.declared.value.UnaryOp.TheVariants as unary_op
+use Rattle.core_tree.specs.declared.value.Change.{Change}
+use Rattle.core_tree.specs.declared.value.Change.TheVariants as change
+use Rattle.core_tree.specs.Core.{Exp}
+use Rattle.core_tree.specs.Meaning as meaning
 use Rattle.flow_lower.specs.Lowered.{unary_work, change_work}
-use Rattle.c_core.specs.Sound.{SuitsUnary, SuitsChange}
+use Rattle.core_tree.specs.Sound.{SuitsUnary, SuitsChange}
 use Rattle.lower_sound.proofs.Places.{is_kind}
 
 module _ (f : Function) (sized : length f.pointers ≡ f.registers) where

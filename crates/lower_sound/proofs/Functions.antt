@@ -11,21 +11,21 @@ use Rattle.rr_base.specs.declared.trap.Trap.TheVariants as trap
 use Rattle.flow_code.specs.declared.act.Act.{Act}
 use Rattle.flow_code.specs.declared.act.Act.TheVariants as act
 use Rattle.flow_code.specs.declared.thread.Phase.TheVariants as phase
-use Rattle.abstract_machine.specs.declared.event.Due.TheVariants as due
-use Rattle.abstract_machine.specs.declared.event.Action.TheVariants as action
-use Rattle.abstract_machine.specs.Registers.{register}
+use Rattle.word_semantics.specs.declared.event.Due.TheVariants as due
+use Rattle.word_semantics.specs.declared.event.Action.TheVariants as action
+use Rattle.word_semantics.specs.Registers.{register}
 use Rattle.flow_code.specs.Threads.{Frame, Thread, instrs_in, registers_in, objects_in, objects_of, fitted, placed, with_arguments, first_frame, arena_end, line_of, is_main}
 use Rattle.flow_code.specs.Next.{past, given, in_frame, act_at, act_due, act_after, due_of, action_at, stepped, listed, limited, owing, first_owed, phase_due, phase_after, after_due, one_more, one_made, enter_due, mark_if, or_else, value_of, back_in, result_of}
-use Rattle.abstract_machine.specs.Limits.{most_entries, most_frames}
-use Rattle.abstract_machine.specs.Registers.{words_of}
-use Rattle.abstract_machine.specs.Cells.{access_kind}
+use Rattle.word_semantics.specs.Limits.{most_entries, most_frames}
+use Rattle.word_semantics.specs.Registers.{words_of}
+use Rattle.word_semantics.specs.Cells.{access_kind}
 use Rattle.flow_code.specs.Next as next
-use Rattle.c_core.specs.Core.{Arrival, arrives, Function, Program}
-use Rattle.c_core.specs.Runs.{Run, State, M, counted}
-use Rattle.c_core.specs.Meaning as meaning
-use Rattle.c_core.specs.Meaning.{Calls, Completion, goes, breaks, continues, returns, word_given, line_given, made_objects, listed_word, left, defined, pointed, callees}
+use Rattle.core_tree.specs.Core.{Arrival, arrives, Function, Program}
+use Rattle.core_tree.specs.Runs.{Run, State, M, counted}
+use Rattle.core_tree.specs.Meaning as meaning
+use Rattle.core_tree.specs.Meaning.{Calls, Completion, goes, breaks, continues, returns, word_given, line_given, made_objects, listed_word, left, defined, pointed, callees}
 use Rattle.flow_lower.specs.Lowered.{body_kept, one, lowered, function_code, function_kinds, body_code, statement_kinds, arrivals_code}
-use Rattle.c_core.specs.Within.{IsWithin, IsWithinFunction, AreWithinArrivals}
+use Rattle.core_tree.specs.Within.{IsWithin, IsWithinFunction, AreWithinArrivals}
 use Rattle.lower_sound.specs.Follows.{Follows, here}
 use Rattle.lower_sound.proofs.Machine.{Shows, by_quiet}
 use Rattle.lower_sound.proofs.Places.{HasAt, has_front, first_of, start_of, body_at, end_at, statement_part, from_arrivals, has_arrivals, has_body, has_end, has_kinds}

@@ -3,21 +3,21 @@ use Rattle.std.proofs.Common.{◌≡◌, ℕ, ◌+◌, ◌<◌, Bool, true, fals
 use Rattle.std.proofs.lemmas.Bool.{and_from}
 use Rattle.flow_code.specs.declared.act.Act.TheVariants as act
 use Rattle.flow_code.specs.declared.act.Instr.{Instr}
-use Rattle.abstract_machine.specs.declared.library_call.LibraryCall.{LibraryCall}
-use Rattle.abstract_machine.specs.declared.library_call.LibraryCall.TheVariants as library_call
+use Rattle.word_semantics.specs.declared.library_call.LibraryCall.{LibraryCall}
+use Rattle.word_semantics.specs.declared.library_call.LibraryCall.TheVariants as library_call
 use Rattle.flow_code.specs.declared.code.Code.{Code}
 use Rattle.flow_code.specs.declared.code.Function.{Function as FlowFunction}
 use Rattle.flow_code.specs.declared.work.Work.{Work}
 use Rattle.flow_code.specs.declared.work.Work.TheVariants as work
 use Rattle.flow_code.specs.Kinds.{has_register, has_pointer, has_whole, has_kind, have_kinds, value_fits, is_site, starts_fit, library_value_fits, work_fits, act_fits}
-use Rattle.abstract_machine.specs.Kinds.{library_kinds}
+use Rattle.word_semantics.specs.Kinds.{library_kinds}
 use Rattle.flow_code.specs.Addresses.{is_address}
 use Rattle.rr_base.specs.declared.position.Position.{Position}
-use Rattle.c_core.specs.Core as core
-use Rattle.c_core.specs.Core.{Exp, null, load, unary, binary, move, advance, member, between, to_pointer, to_number, copy, both, either, conditional, comma, set_register, store, change_register, change_cell, call, library, allocate, Exps, no_exp, and_exp, Function, Program}
-use Rattle.c_core.specs.Meaning.{is_pointer, is_pointer_change}
+use Rattle.core_tree.specs.Core as core
+use Rattle.core_tree.specs.Core.{Exp, null, load, unary, binary, move, advance, member, between, to_pointer, to_number, copy, both, either, conditional, comma, set_register, store, change_register, change_cell, call, library, allocate, Exps, no_exp, and_exp, Function, Program}
+use Rattle.core_tree.specs.Meaning.{is_pointer, is_pointer_change}
 use Rattle.flow_lower.specs.Lowered.{held, instr, one, computes, gives_nothing, library_size, library_code, truth_code, unary_work, change_work, width, exp_kinds, exps_kinds, exp_size, exps_size, exp_code, exps_code, value_registers}
-use Rattle.c_core.specs.Sound.{IsSoundExp, AreSound, value_kinds}
+use Rattle.core_tree.specs.Sound.{IsSoundExp, AreSound, value_kinds}
 use Rattle.lower_sound.proofs.Lengths.{exp_length, exps_length}
 use Rattle.lower_sound.proofs.Places.{HasAt, has_at, has_front, has_back, kind_held}
 use Rattle.lower_sound.proofs.Fitting.{registered, pointer, kinded, alike, as_pointer, as_whole, binary_is, move_is, between_is, number_is, unary_is, change_is, either_holds}

@@ -14,10 +14,10 @@ use Rattle.flow_code.specs.Addresses.{is_address}
 use Rattle.flow_code.specs.Order.{is_end, ends_in_itself, makes_no_object, make_no_objects, objects_are_first, jumps_fit, order_fits}
 use Rattle.flow_code.specs.Valid.{registers_fit, acts_fit, loops_fit, function_fits}
 use Rattle.rr_base.specs.declared.position.Position.{Position}
-use Rattle.c_core.specs.Core.{Arrival, arrives, Function, Program}
+use Rattle.core_tree.specs.Core.{Arrival, arrives, Function, Program}
 use Rattle.flow_lower.specs.Lowered.{body_kept, instr, one, lowered, function_code, function_kinds, body_code, statement_kinds, statement_size, objects_code, arrivals_code}
-use Rattle.lower_parts.specs.Loops.{statement_loops}
-use Rattle.c_core.specs.Sound.{HasSite, IsFunction, IsAddress, IsSoundArrival, IsSoundFunction}
+use Rattle.lowering_parts.specs.Loops.{statement_loops}
+use Rattle.core_tree.specs.Sound.{HasSite, IsFunction, IsAddress, IsSoundArrival, IsSoundFunction}
 use Rattle.lower_sound.proofs.Lengths.{statement_length, arrivals_length}
 use Rattle.lower_sound.proofs.Places.{HasAt, has_front, start_of, body_at, end_at, statement_part, from_arrivals, has_body, has_end, has_kinds}
 use Rattle.lower_sound.proofs.Fitting.{pointer}

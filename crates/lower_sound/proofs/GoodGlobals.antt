@@ -8,13 +8,13 @@ use Rattle.rr_base.specs.declared.layout.CellKind.{CellKind}
 use Rattle.rr_base.specs.declared.layout.CellKind.TheVariants as kind
 use Rattle.rr_base.specs.declared.layout.Layout.{Layout}
 use Rattle.rr_base.specs.declared.layout.Site.{Site}
-use Rattle.abstract_machine.specs.Pointers.{site_at, base_at, same_kind}
-use Rattle.abstract_machine.specs.Cells.{size_in, size_of}
-use Rattle.abstract_machine.specs.Layouts.{layout_fits, sites_fit}
+use Rattle.word_semantics.specs.Pointers.{site_at, base_at, same_kind}
+use Rattle.word_semantics.specs.Cells.{size_in, size_of}
+use Rattle.word_semantics.specs.Layouts.{layout_fits, sites_fit}
 use Rattle.flow_code.specs.Addresses.{address_at, whole_object, address_of, is_given, is_address, lies_apart, all_apart, begin_with, object_fits, objects_fit, word_fits, words_fit, globals_fit}
-use Rattle.c_core.specs.Core.{Program}
+use Rattle.core_tree.specs.Core.{Program}
 use Rattle.flow_lower.specs.Lowered.{lowered}
-use Rattle.c_core.specs.Sound.{IsAddress, AreAtHome}
+use Rattle.core_tree.specs.Sound.{IsAddress, AreAtHome}
 
 -- ---- kinds of cells
 

@@ -6,10 +6,10 @@ use Rattle.flow_code.specs.declared.code.Code.{Code}
 use Rattle.flow_code.specs.declared.code.Function.{Function as FlowFunction}
 use Rattle.flow_code.specs.Kinds.{has_register, has_kind}
 use Rattle.rr_base.specs.declared.position.Position.{Position}
-use Rattle.c_core.specs.Core.{Exp, Statement, block, compute, branch, branch_else, while_loop, do_loop, for_loop, break_at, continue_at, gives, Statements, no_statement, and_statement, Function, Program}
-use Rattle.c_core.specs.Meaning.{is_pointer}
+use Rattle.core_tree.specs.Core.{Exp, Statement, block, compute, branch, branch_else, while_loop, do_loop, for_loop, break_at, continue_at, gives, Statements, no_statement, and_statement, Function, Program}
+use Rattle.core_tree.specs.Meaning.{is_pointer}
 use Rattle.flow_lower.specs.Lowered.{held, instr, one, exp_kinds, maybe_kinds, width, exp_size, maybe_size, test_size, exp_code, maybe_code, test_code, return_code, statement_kinds, statements_kinds, statement_size, statements_size, statement_code, statements_code}
-use Rattle.c_core.specs.Sound.{IsSoundExp, IsSoundMaybe, IsSoundResult, IsSoundStatement, AreSoundStatements}
+use Rattle.core_tree.specs.Sound.{IsSoundExp, IsSoundMaybe, IsSoundResult, IsSoundStatement, AreSoundStatements}
 use Rattle.lower_sound.proofs.Lengths.{exp_length, test_length, statement_length}
 use Rattle.lower_sound.proofs.Places.{HasAt, has_at, has_front, has_back}
 use Rattle.lower_sound.proofs.Fitting.{registered, kinded}

@@ -2,16 +2,16 @@
 use Rattle.std.proofs.Common.{◌≡◌, ℕ, zero, suc, ◌+◌, ◌<◌, ◌≤◌, inl, inr, Bool, true, false, not, ◌&&◌, ◌==◌, List, [], ◌∷◌, length, take, Option, Some, None, slice_get, refl, ◌∙◌, ap, arith}
 use Rattle.std.proofs.lemmas.Bool.{and_from, eq-eqb}
 use Rattle.flow_code.specs.declared.act.Act.TheVariants as act
-use Rattle.abstract_machine.specs.declared.library_call.LibraryCall.{LibraryCall}
-use Rattle.abstract_machine.specs.declared.library_call.LibraryCall.TheVariants as library_call
+use Rattle.word_semantics.specs.declared.library_call.LibraryCall.{LibraryCall}
+use Rattle.word_semantics.specs.declared.library_call.LibraryCall.TheVariants as library_call
 use Rattle.flow_code.specs.declared.code.Code.{Code}
 use Rattle.flow_code.specs.declared.code.Function.{Function as FlowFunction}
 use Rattle.flow_code.specs.Works.{is_pointer}
 use Rattle.flow_code.specs.Threads.{is_main_in}
 use Rattle.flow_code.specs.Kinds.{formal_kinds, have_kinds, value_fits, call_fits, may_start, starts_fit, act_fits, is_site}
 use Rattle.flow_code.specs.Addresses.{is_address}
-use Rattle.c_core.specs.Core.{Function, Program}
-use Rattle.c_core.specs.Sound.{IsFunction, IsPointerType, IsCallable, Starts, HasSite, IsAddress}
+use Rattle.core_tree.specs.Core.{Function, Program}
+use Rattle.core_tree.specs.Sound.{IsFunction, IsPointerType, IsCallable, Starts, HasSite, IsAddress}
 use Rattle.lower_sound.proofs.Fitting.{kinded}
 
 -- a function other than `main` that takes values of these kinds and gives a pointer or not

@@ -2,16 +2,16 @@
 use Rattle.std.proofs.Common.{◌≡◌, ℕ, ◌||◌, ◌==◌, nat_eq, not, Bool, true, false, if◌then◌else◌, pos, ◌*ℤ◌, List, ◌∷◌, Option, Some, None, refl, ◌∙◌, ap}
 use Rattle.sync_objects.specs.Setup.{SetupView}
 use Rattle.rr_base.specs.declared.position.Position.{Position}
-use Rattle.abstract_machine.specs.Values.{number, truth}
-use Rattle.abstract_machine.specs.Pointers.{moved, moved_by, directed, compared, elements_between, pointer_to, number_from}
-use Rattle.abstract_machine.specs.Operators.{either_binary_of}
-use Rattle.abstract_machine.specs.Cells.{access_kind}
-use Rattle.c_core.specs.Core as core
-use Rattle.c_core.specs.Core.{Exp, null, load, unary, binary, move, advance, member, between, to_pointer, to_number, copy, both, either, conditional, comma, set_register, store, change_register, change_cell, call, library, allocate, Exps, no_exp, and_exp, Statement, block, compute, branch, branch_else, while_loop, do_loop, for_loop, break_at, continue_at, gives, Statements, no_statement, and_statement, Program}
-use Rattle.c_core.specs.Runs.{M, ◌>>=◌, ◌>>◌, pure, result_at, read_register, write_register, choose}
-use Rattle.c_core.specs.Meaning as meaning
-use Rattle.c_core.specs.Meaning.{Calls, Completion, goes, returns, if_goes, is_pointer, is_pointer_change, unary_of, changed, load_at, store_at, library_call, allocated, value, values, test_value, step_value}
-use Rattle.lower_parts.specs.Kept.{assigns, any_assigns, loses, copied_if, kept, all_kept, maybe_kept, statement_kept, statements_kept}
+use Rattle.word_semantics.specs.Values.{number, truth}
+use Rattle.word_semantics.specs.Pointers.{moved, moved_by, directed, compared, elements_between, pointer_to, number_from}
+use Rattle.word_semantics.specs.Operators.{either_binary_of}
+use Rattle.word_semantics.specs.Cells.{access_kind}
+use Rattle.core_tree.specs.Core as core
+use Rattle.core_tree.specs.Core.{Exp, null, load, unary, binary, move, advance, member, between, to_pointer, to_number, copy, both, either, conditional, comma, set_register, store, change_register, change_cell, call, library, allocate, Exps, no_exp, and_exp, Statement, block, compute, branch, branch_else, while_loop, do_loop, for_loop, break_at, continue_at, gives, Statements, no_statement, and_statement, Program}
+use Rattle.core_tree.specs.Runs.{M, ◌>>=◌, ◌>>◌, pure, result_at, read_register, write_register, choose}
+use Rattle.core_tree.specs.Meaning as meaning
+use Rattle.core_tree.specs.Meaning.{Calls, Completion, goes, returns, if_goes, is_pointer, is_pointer_change, unary_of, changed, load_at, store_at, library_call, allocated, value, values, test_value, step_value}
+use Rattle.lowering_parts.specs.Kept.{assigns, any_assigns, loses, copied_if, kept, all_kept, maybe_kept, statement_kept, statements_kept}
 
 pub pointer_kept : (e : Exp) → is_pointer (kept e) ≡ is_pointer e
 pointer_kept (core.number z at) = refl

@@ -1,16 +1,16 @@
 -- A sound core tree is sound with its copies too.
 use Rattle.std.proofs.Common.{◌≡◌, ℕ, Bool, true, false, ◌∷◌, Option, Some, None, refl, sym, ◌∙◌, ap, subst}
 use Rattle.rr_base.specs.declared.position.Position.{Position}
-use Rattle.abstract_machine.specs.declared.operator.BinaryOp.{BinaryOp}
-use Rattle.c_core.specs.declared.value.UnaryOp.{UnaryOp}
-use Rattle.c_core.specs.declared.value.UnaryOp.TheVariants as unary_op
-use Rattle.c_core.specs.declared.value.Change.{Change}
-use Rattle.c_core.specs.declared.value.Change.TheVariants as change
-use Rattle.c_core.specs.Core as core
-use Rattle.c_core.specs.Core.{Exp, null, load, unary, binary, move, advance, member, between, to_pointer, to_number, copy, both, either, conditional, comma, set_register, store, change_register, change_cell, call, library, allocate, Exps, no_exp, and_exp, Statement, block, compute, branch, branch_else, while_loop, do_loop, for_loop, break_at, continue_at, gives, Statements, no_statement, and_statement, Function, Program}
-use Rattle.c_core.specs.Meaning.{is_pointer}
-use Rattle.lower_parts.specs.Kept.{assigns, any_assigns, loses, copied_if, kept, all_kept, maybe_kept, statement_kept, statements_kept}
-use Rattle.c_core.specs.Sound.{IsCallable, HasRegister, SuitsUnary, SuitBinary, SuitsChange, value_kinds, IsSoundExp, AreSound, IsSoundMaybe, IsSoundResult, IsSoundStatement, AreSoundStatements}
+use Rattle.word_semantics.specs.declared.operator.BinaryOp.{BinaryOp}
+use Rattle.core_tree.specs.declared.value.UnaryOp.{UnaryOp}
+use Rattle.core_tree.specs.declared.value.UnaryOp.TheVariants as unary_op
+use Rattle.core_tree.specs.declared.value.Change.{Change}
+use Rattle.core_tree.specs.declared.value.Change.TheVariants as change
+use Rattle.core_tree.specs.Core as core
+use Rattle.core_tree.specs.Core.{Exp, null, load, unary, binary, move, advance, member, between, to_pointer, to_number, copy, both, either, conditional, comma, set_register, store, change_register, change_cell, call, library, allocate, Exps, no_exp, and_exp, Statement, block, compute, branch, branch_else, while_loop, do_loop, for_loop, break_at, continue_at, gives, Statements, no_statement, and_statement, Function, Program}
+use Rattle.core_tree.specs.Meaning.{is_pointer}
+use Rattle.lowering_parts.specs.Kept.{assigns, any_assigns, loses, copied_if, kept, all_kept, maybe_kept, statement_kept, statements_kept}
+use Rattle.core_tree.specs.Sound.{IsCallable, HasRegister, SuitsUnary, SuitBinary, SuitsChange, value_kinds, IsSoundExp, AreSound, IsSoundMaybe, IsSoundResult, IsSoundStatement, AreSoundStatements}
 use Rattle.lower_sound.proofs.Keeping.{pointer_kept, pointer_copied}
 
 -- the kind of an operand before others

@@ -10,29 +10,29 @@ use Rattle.sync_objects.specs.declared.operation.Op.TheVariants as op
 use Rattle.rr_base.specs.declared.trap.Trap.TheVariants as trap
 use Rattle.flow_code.specs.declared.act.Act.{Act}
 use Rattle.flow_code.specs.declared.act.Act.TheVariants as act
-use Rattle.abstract_machine.specs.declared.library_call.LibraryCall.{LibraryCall}
-use Rattle.abstract_machine.specs.declared.library_call.LibraryCall.TheVariants as call
+use Rattle.word_semantics.specs.declared.library_call.LibraryCall.{LibraryCall}
+use Rattle.word_semantics.specs.declared.library_call.LibraryCall.TheVariants as call
 use Rattle.flow_code.specs.declared.work.Work.TheVariants as work
 use Rattle.flow_code.specs.declared.code.Code.{Code}
 use Rattle.flow_code.specs.declared.thread.Phase.TheVariants as phase
-use Rattle.abstract_machine.specs.declared.event.Due.{Due}
-use Rattle.abstract_machine.specs.declared.event.Due.TheVariants as due
-use Rattle.abstract_machine.specs.declared.event.Action.TheVariants as action
-use Rattle.abstract_machine.specs.declared.event.Onward.{Onward}
-use Rattle.abstract_machine.specs.declared.event.Onward.TheVariants as onward
-use Rattle.abstract_machine.specs.Registers.{register}
-use Rattle.abstract_machine.specs.Library.{Caller, argument, printed_piece, most_printed, library_due, library_onward, piece_of}
+use Rattle.word_semantics.specs.declared.event.Due.{Due}
+use Rattle.word_semantics.specs.declared.event.Due.TheVariants as due
+use Rattle.word_semantics.specs.declared.event.Action.TheVariants as action
+use Rattle.word_semantics.specs.declared.event.Onward.{Onward}
+use Rattle.word_semantics.specs.declared.event.Onward.TheVariants as onward
+use Rattle.word_semantics.specs.Registers.{register}
+use Rattle.word_semantics.specs.Library.{Caller, argument, printed_piece, most_printed, library_due, library_onward, piece_of}
 use Rattle.flow_code.specs.Threads.{Frame, Thread, line_of, line_in, instr_at}
-use Rattle.abstract_machine.specs.Cells.{result_cell}
+use Rattle.word_semantics.specs.Cells.{result_cell}
 use Rattle.flow_code.specs.declared.thread.Stripe.{Stripe}
 use Rattle.flow_code.specs.Holding.{parting, parting_due, left_after}
 use Rattle.flow_code.specs.Next.{act_in, act_at, act_due, act_after, due_of, action_of, stepped, limited, listed, owing, first_owed, phase_due, phase_after, after_due, one_more, resumed, call_after, caller, past}
-use Rattle.abstract_machine.specs.Limits.{most_entries, is_free_of_limit}
-use Rattle.abstract_machine.specs.Registers.{words_of}
+use Rattle.word_semantics.specs.Limits.{most_entries, is_free_of_limit}
+use Rattle.word_semantics.specs.Registers.{words_of}
 use Rattle.rr_base.specs.declared.position.Position.{Position}
-use Rattle.c_core.specs.Core.{Function, Program}
-use Rattle.c_core.specs.Runs.{Run, does, traps, ends, State, is_free}
-use Rattle.c_core.specs.Meaning as meaning
+use Rattle.core_tree.specs.Core.{Function, Program}
+use Rattle.core_tree.specs.Runs.{Run, does, traps, ends, State, is_free}
+use Rattle.core_tree.specs.Meaning as meaning
 use Rattle.flow_lower.specs.Lowered.{instr, library_size, library_code, lowered, function_kinds, body_code}
 use Rattle.lower_sound.specs.Follows.{Prints, Follows, here}
 use Rattle.lower_sound.proofs.Machine.{Shows, instr_of, same_register, other_register, goes_quietly, by_quiet, quiet_passes, trap_passes}

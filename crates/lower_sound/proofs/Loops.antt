@@ -4,15 +4,15 @@ use Rattle.std.proofs.lemmas.Bool.Decides.{nat_tests}
 use Rattle.sync_objects.specs.Setup.{SetupView}
 use Rattle.rr_base.specs.declared.trap.Trap.TheVariants as trap
 use Rattle.flow_code.specs.declared.act.Act.TheVariants as act
-use Rattle.abstract_machine.specs.declared.event.Due.TheVariants as due
+use Rattle.word_semantics.specs.declared.event.Due.TheVariants as due
 use Rattle.flow_code.specs.Threads.{Frame, Thread}
 use Rattle.flow_code.specs.Next.{one_more, in_frame, past, value_of, listed, limited, owing}
-use Rattle.abstract_machine.specs.Limits.{most_entries}
+use Rattle.word_semantics.specs.Limits.{most_entries}
 use Rattle.rr_base.specs.declared.position.Position.{Position}
-use Rattle.c_core.specs.Core.{Function, Program}
-use Rattle.c_core.specs.Runs.{Run, State, M, ◌>>=◌, ◌>>◌, pure, counted, choose}
-use Rattle.c_core.specs.Meaning as meaning
-use Rattle.c_core.specs.Meaning.{Completion, goes, breaks, continues, returns, if_turns}
+use Rattle.core_tree.specs.Core.{Function, Program}
+use Rattle.core_tree.specs.Runs.{Run, State, M, ◌>>=◌, ◌>>◌, pure, counted, choose}
+use Rattle.core_tree.specs.Meaning as meaning
+use Rattle.core_tree.specs.Meaning.{Completion, goes, breaks, continues, returns, if_turns}
 use Rattle.flow_lower.specs.Lowered.{instr, lowered, body_code}
 use Rattle.lower_sound.specs.Follows.{Follows, here}
 use Rattle.lower_sound.proofs.Machine.{Shows, due_at, line_at}

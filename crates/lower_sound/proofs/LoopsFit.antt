@@ -7,16 +7,16 @@ use Rattle.std.specs.Option.{option_zip}
 use Rattle.flow_code.specs.declared.code.Function.{Function as FlowFunction}
 use Rattle.flow_code.specs.declared.code.LoopInfo.{LoopInfo}
 use Rattle.flow_code.specs.declared.region.Bound.{Bound}
-use Rattle.abstract_machine.specs.declared.operator.BinaryOp.TheVariants as binary_op
+use Rattle.word_semantics.specs.declared.operator.BinaryOp.TheVariants as binary_op
 use Rattle.flow_code.specs.Kinds.{has_register, has_instr}
 use Rattle.flow_code.specs.Regions.{bound_is_register, loop_fits}
 use Rattle.flow_code.specs.Valid.{loops_fit}
-use Rattle.c_core.specs.Core as core
-use Rattle.c_core.specs.Core.{Exp, register, binary, Statement, block, compute, branch, branch_else, while_loop, do_loop, for_loop, break_at, continue_at, gives, Statements, no_statement, and_statement}
-use Rattle.lower_parts.specs.Kept.{kept, maybe_kept, statements_kept}
-use Rattle.lower_parts.specs.Sizes.{exp_size, maybe_size, test_size, statements_size}
-use Rattle.lower_parts.specs.Loops.{lowered_size, register_of, bound_of, limit_of, step_of, loop_of, statement_loops, statements_loops}
-use Rattle.c_core.specs.Within.{IsWithinExp, IsWithinMaybe, IsWithinStatement, AreWithinStatements}
+use Rattle.core_tree.specs.Core as core
+use Rattle.core_tree.specs.Core.{Exp, register, binary, Statement, block, compute, branch, branch_else, while_loop, do_loop, for_loop, break_at, continue_at, gives, Statements, no_statement, and_statement}
+use Rattle.lowering_parts.specs.Kept.{kept, maybe_kept, statements_kept}
+use Rattle.lowering_parts.specs.Sizes.{exp_size, maybe_size, test_size, statements_size}
+use Rattle.lowering_parts.specs.Loops.{lowered_size, register_of, bound_of, limit_of, step_of, loop_of, statement_loops, statements_loops}
+use Rattle.core_tree.specs.Within.{IsWithinExp, IsWithinMaybe, IsWithinStatement, AreWithinStatements}
 
 module _ (g : FlowFunction) (rs : List Bool) (os fs : ℕ) (few : length rs ≤ g.registers) where
   -- ---- the registers

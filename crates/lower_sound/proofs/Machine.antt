@@ -7,14 +7,14 @@ use Rattle.rr_base.specs.declared.trap.Trap.{Trap}
 use Rattle.flow_code.specs.declared.act.Act.{Act}
 use Rattle.flow_code.specs.declared.code.Code.{Code}
 use Rattle.flow_code.specs.declared.thread.Phase.TheVariants as phase
-use Rattle.abstract_machine.specs.declared.event.Due.TheVariants as due
-use Rattle.abstract_machine.specs.Registers.{register}
+use Rattle.word_semantics.specs.declared.event.Due.TheVariants as due
+use Rattle.word_semantics.specs.Registers.{register}
 use Rattle.flow_code.specs.Threads.{Frame, Thread, instr_at, instr_in, line_of, line_in}
 use Rattle.flow_code.specs.Next.{act_in, act_at, pointers_of, pointers_in, act_due, act_after, due_of, stepped, limited, listed, owing, first_owed, phase_due, phase_after, after_due}
-use Rattle.abstract_machine.specs.Limits.{most_entries}
+use Rattle.word_semantics.specs.Limits.{most_entries}
 use Rattle.rr_base.specs.declared.position.Position.{Position}
-use Rattle.c_core.specs.Core.{Function, Program}
-use Rattle.c_core.specs.Runs.{Run, does, traps, ends, State}
+use Rattle.core_tree.specs.Core.{Function, Program}
+use Rattle.core_tree.specs.Runs.{Run, does, traps, ends, State}
 use Rattle.flow_lower.specs.Lowered.{instr, lowered, function_code, function_kinds, body_code}
 use Rattle.lower_sound.specs.Follows.{Comes, here, quietly, Follows}
 

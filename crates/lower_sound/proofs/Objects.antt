@@ -4,16 +4,16 @@ use Rattle.std.proofs.lemmas.List.{length-set}
 use Rattle.rr_base.specs.declared.layout.Site.{Site}
 use Rattle.flow_code.specs.declared.act.Act.TheVariants as act
 use Rattle.flow_code.specs.declared.act.Instr.{Instr}
-use Rattle.abstract_machine.specs.declared.library_call.LibraryCall.{LibraryCall}
+use Rattle.word_semantics.specs.declared.library_call.LibraryCall.{LibraryCall}
 use Rattle.flow_code.specs.declared.work.Work.TheVariants as work
-use Rattle.abstract_machine.specs.Pointers.{pointer_at}
-use Rattle.abstract_machine.specs.Registers.{register}
+use Rattle.word_semantics.specs.Pointers.{pointer_at}
+use Rattle.word_semantics.specs.Registers.{register}
 use Rattle.flow_code.specs.Threads.{Object, object, object_of, and_objects, objects_of, fitted, placed, with_arguments}
-use Rattle.abstract_machine.specs.Cells.{size_of}
+use Rattle.word_semantics.specs.Cells.{size_of}
 use Rattle.rr_base.specs.declared.position.Position.{Position}
-use Rattle.c_core.specs.Core as core
-use Rattle.c_core.specs.Core.{Exp, null, load, unary, binary, move, advance, member, between, to_pointer, to_number, copy, both, either, conditional, comma, set_register, store, change_register, change_cell, call, library, allocate, Exps, no_exp, and_exp, Statement, block, compute, branch, branch_else, while_loop, do_loop, for_loop, break_at, continue_at, gives, Statements, no_statement, and_statement, Arrival, arrives}
-use Rattle.c_core.specs.Meaning.{made_objects, with_first, listed_word}
+use Rattle.core_tree.specs.Core as core
+use Rattle.core_tree.specs.Core.{Exp, null, load, unary, binary, move, advance, member, between, to_pointer, to_number, copy, both, either, conditional, comma, set_register, store, change_register, change_cell, call, library, allocate, Exps, no_exp, and_exp, Statement, block, compute, branch, branch_else, while_loop, do_loop, for_loop, break_at, continue_at, gives, Statements, no_statement, and_statement, Arrival, arrives}
+use Rattle.core_tree.specs.Meaning.{made_objects, with_first, listed_word}
 use Rattle.flow_lower.specs.Lowered.{instr, one, computes, gives_nothing, library_code, width, exp_size, exp_code, exps_code, value_registers, statement_kinds, statement_size, statement_code, statements_code, objects_code, arrivals_code}
 use Rattle.lower_sound.proofs.Machine.{same_register, other_register}
 

@@ -7,9 +7,9 @@ use Rattle.flow_code.specs.declared.act.Act.TheVariants as act
 use Rattle.flow_code.specs.declared.act.Instr.{Instr}
 use Rattle.flow_code.specs.Works.{is_pointer}
 use Rattle.rr_base.specs.declared.position.Position.{Position}
-use Rattle.c_core.specs.Core as core
-use Rattle.c_core.specs.Core.{Exp, null, load, unary, binary, move, advance, member, between, to_pointer, to_number, copy, both, either, conditional, comma, set_register, store, change_register, change_cell, call, library, allocate, Function}
-use Rattle.c_core.specs.Meaning as meaning
+use Rattle.core_tree.specs.Core as core
+use Rattle.core_tree.specs.Core.{Exp, null, load, unary, binary, move, advance, member, between, to_pointer, to_number, copy, both, either, conditional, comma, set_register, store, change_register, change_cell, call, library, allocate, Function}
+use Rattle.core_tree.specs.Meaning as meaning
 use Rattle.flow_lower.specs.Lowered.{instr, one, exp_kinds, function_kinds, body_code, statement_kinds, statement_size, statement_code, objects_code, arrivals_code, held, body_kept}
 use Rattle.lower_sound.proofs.Lengths.{statement_length, objects_length, arrivals_length}
 

@@ -3,12 +3,12 @@ use Rattle.std.proofs.Common.{◌≡◌, ℕ, suc, ◌+◌, ◌<◌, inl, inr, B
 use Rattle.std.specs.List.{position_or_len}
 use Rattle.std.proofs.lemmas.Bool.{ltb-true}
 use Rattle.std.proofs.lemmas.Option.{slice_get_within}
-use Rattle.abstract_machine.specs.Pointers.{base_at}
-use Rattle.c_core.specs.Core as core
-use Rattle.c_core.specs.Core.{Exp, null, load, unary, binary, move, advance, member, between, to_pointer, to_number, copy, both, either, conditional, comma, set_register, store, change_register, change_cell, call, library, allocate, Exps, no_exp, and_exp, Statement, block, compute, branch, branch_else, while_loop, do_loop, for_loop, break_at, continue_at, gives, Statements, no_statement, and_statement, Arrival, arrives, Function, Program}
-use Rattle.c_core.specs.Meaning.{is_main}
-use Rattle.c_core.specs.Within.{IsWithinExp, AreWithin, IsWithinMaybe, IsWithinStatement, AreWithinStatements, AreWithinArrivals, IsWithinFunction, IsWithin}
-use Rattle.c_core.specs.Sound.{IsCallable, value_kinds, IsSoundExp, AreSound, IsSoundMaybe, IsSoundResult, IsSoundStatement, AreSoundStatements, IsSoundArrival, IsSoundFunction, IsSound}
+use Rattle.word_semantics.specs.Pointers.{base_at}
+use Rattle.core_tree.specs.Core as core
+use Rattle.core_tree.specs.Core.{Exp, null, load, unary, binary, move, advance, member, between, to_pointer, to_number, copy, both, either, conditional, comma, set_register, store, change_register, change_cell, call, library, allocate, Exps, no_exp, and_exp, Statement, block, compute, branch, branch_else, while_loop, do_loop, for_loop, break_at, continue_at, gives, Statements, no_statement, and_statement, Arrival, arrives, Function, Program}
+use Rattle.core_tree.specs.Meaning.{is_main}
+use Rattle.core_tree.specs.Within.{IsWithinExp, AreWithin, IsWithinMaybe, IsWithinStatement, AreWithinStatements, AreWithinArrivals, IsWithinFunction, IsWithin}
+use Rattle.core_tree.specs.Sound.{IsCallable, value_kinds, IsSoundExp, AreSound, IsSoundMaybe, IsSoundResult, IsSoundStatement, AreSoundStatements, IsSoundArrival, IsSoundFunction, IsSound}
 
 module _ (p : Program) (home : ℕ → Option ℕ) (f : Function) where
   abbrev rs : List Bool

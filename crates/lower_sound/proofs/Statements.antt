@@ -5,13 +5,13 @@ use Rattle.flow_code.specs.declared.act.Act.TheVariants as act
 use Rattle.flow_code.specs.declared.act.Instr.{Instr}
 use Rattle.flow_code.specs.Threads.{Frame, Thread}
 use Rattle.rr_base.specs.declared.position.Position.{Position}
-use Rattle.c_core.specs.Core.{Exp, Statement, block, compute, branch, branch_else, while_loop, do_loop, for_loop, break_at, continue_at, gives, Statements, no_statement, and_statement, Function, Program}
-use Rattle.c_core.specs.Runs.{Run, State, M, pure}
-use Rattle.c_core.specs.Meaning as meaning
-use Rattle.c_core.specs.Meaning.{Calls, Completion, goes, breaks, continues, returns, if_goes, value, test_value, step_value}
-use Rattle.lower_parts.specs.Kept.{kept, maybe_kept, statement_kept, statements_kept}
+use Rattle.core_tree.specs.Core.{Exp, Statement, block, compute, branch, branch_else, while_loop, do_loop, for_loop, break_at, continue_at, gives, Statements, no_statement, and_statement, Function, Program}
+use Rattle.core_tree.specs.Runs.{Run, State, M, pure}
+use Rattle.core_tree.specs.Meaning as meaning
+use Rattle.core_tree.specs.Meaning.{Calls, Completion, goes, breaks, continues, returns, if_goes, value, test_value, step_value}
+use Rattle.lowering_parts.specs.Kept.{kept, maybe_kept, statement_kept, statements_kept}
 use Rattle.flow_lower.specs.Lowered.{held, instr, one, lowered, function_kinds, body_code, exp_kinds, maybe_kinds, width, exp_size, maybe_size, test_size, exp_code, maybe_code, test_code, statement_kinds, statements_kinds, statement_size, statements_size, statement_code, statements_code}
-use Rattle.c_core.specs.Within.{IsWithinExp, IsWithinMaybe, IsWithinStatement, AreWithinStatements}
+use Rattle.core_tree.specs.Within.{IsWithinExp, IsWithinMaybe, IsWithinStatement, AreWithinStatements}
 use Rattle.lower_sound.specs.Follows.{Follows}
 use Rattle.lower_sound.proofs.Machine.{Shows}
 use Rattle.lower_sound.proofs.Places.{HasAt, has_at, has_front, has_back}

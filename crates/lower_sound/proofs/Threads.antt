@@ -11,24 +11,24 @@ use Rattle.sync_objects.specs.declared.operation.Op.TheVariants as op
 use Rattle.rr_base.specs.declared.trap.Trap.TheVariants as trap
 use Rattle.flow_code.specs.declared.thread.Phase.{Phase}
 use Rattle.flow_code.specs.declared.thread.Phase.TheVariants as phase
-use Rattle.abstract_machine.specs.declared.event.Due.{Due}
-use Rattle.abstract_machine.specs.declared.event.Due.TheVariants as due
-use Rattle.abstract_machine.specs.declared.event.Action.TheVariants as action
-use Rattle.abstract_machine.specs.Values.{word}
-use Rattle.abstract_machine.specs.Library.{count_in}
+use Rattle.word_semantics.specs.declared.event.Due.{Due}
+use Rattle.word_semantics.specs.declared.event.Due.TheVariants as due
+use Rattle.word_semantics.specs.declared.event.Action.TheVariants as action
+use Rattle.word_semantics.specs.Values.{word}
+use Rattle.word_semantics.specs.Library.{count_in}
 use Rattle.flow_code.specs.Threads.{Thread, line_of, line_of_function}
-use Rattle.abstract_machine.specs.Cells.{argument_cell}
+use Rattle.word_semantics.specs.Cells.{argument_cell}
 use Rattle.flow_code.specs.Next.{due_of, action_of, action_at, stepped, listed, limited, owing, first_owed, phase_due, phase_after, after_due, one_more, or_else, enter_due, counted}
-use Rattle.abstract_machine.specs.Limits.{most_entries}
+use Rattle.word_semantics.specs.Limits.{most_entries}
 use Rattle.flow_code.specs.Next as next
 use Rattle.flow_code.specs.Threads as threads
-use Rattle.c_core.specs.Core.{Function, Program}
-use Rattle.c_core.specs.Runs as runs
-use Rattle.c_core.specs.Runs.{Run, does, traps, ends, State}
-use Rattle.c_core.specs.Meaning as meaning
-use Rattle.c_core.specs.Meaning.{Callee, defined, pointed, callees, word_given, line_given, made_objects, main_of}
+use Rattle.core_tree.specs.Core.{Function, Program}
+use Rattle.core_tree.specs.Runs as runs
+use Rattle.core_tree.specs.Runs.{Run, does, traps, ends, State}
+use Rattle.core_tree.specs.Meaning as meaning
+use Rattle.core_tree.specs.Meaning.{Callee, defined, pointed, callees, word_given, line_given, made_objects, main_of}
 use Rattle.flow_lower.specs.Lowered.{lowered, function_code}
-use Rattle.c_core.specs.Within.{IsWithin}
+use Rattle.core_tree.specs.Within.{IsWithin}
 use Rattle.lower_sound.specs.Follows.{Prints, Follows, here, IsAtStart}
 use Rattle.lower_sound.proofs.Functions.{in_code, objects_here, fits_here, shows_entered, enter_follows, body_follows, function_within, callee_found, served}
 use Rattle.lower_sound.proofs.Objects.{count_of_objects}

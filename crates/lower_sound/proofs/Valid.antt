@@ -5,12 +5,12 @@ use Rattle.std.proofs.lemmas.List.{length-map}
 use Rattle.flow_code.specs.declared.code.Code.{Code}
 use Rattle.flow_code.specs.Addresses.{globals_fit}
 use Rattle.flow_code.specs.Valid.{function_fits, functions_fit, is_main_function, mains_in, mains_have_no_formals, has_one_main, is_within_limits, is_valid}
-use Rattle.abstract_machine.specs.Layouts.{sites_fit}
-use Rattle.abstract_machine.specs.Pointers.{base_at}
-use Rattle.c_core.specs.Core.{Function, Program}
-use Rattle.c_core.specs.Meaning.{is_main}
+use Rattle.word_semantics.specs.Layouts.{sites_fit}
+use Rattle.word_semantics.specs.Pointers.{base_at}
+use Rattle.core_tree.specs.Core.{Function, Program}
+use Rattle.core_tree.specs.Meaning.{is_main}
 use Rattle.flow_lower.specs.Lowered.{lowered, function_code}
-use Rattle.c_core.specs.Sound.{IsSound}
+use Rattle.core_tree.specs.Sound.{IsSound}
 use Rattle.lower_sound.proofs.GoodFunctions.{function_is}
 use Rattle.lower_sound.proofs.GoodGlobals.{address_is, globals_are}
 

@@ -10,26 +10,26 @@ use Rattle.flow_code.specs.declared.act.Act.TheVariants as act
 use Rattle.flow_code.specs.declared.act.Instr.{Instr}
 use Rattle.flow_code.specs.declared.work.Work.{Work}
 use Rattle.flow_code.specs.declared.work.Work.TheVariants as work
-use Rattle.abstract_machine.specs.declared.operator.BinaryOp.{BinaryOp}
-use Rattle.abstract_machine.specs.Values.{number, word, truth, binary_of}
-use Rattle.abstract_machine.specs.Pointers.{moved, moved_by, directed, compared, elements_between, pointer_to, number_from}
+use Rattle.word_semantics.specs.declared.operator.BinaryOp.{BinaryOp}
+use Rattle.word_semantics.specs.Values.{number, word, truth, binary_of}
+use Rattle.word_semantics.specs.Pointers.{moved, moved_by, directed, compared, elements_between, pointer_to, number_from}
 use Rattle.flow_code.specs.Works.{is_pointer, work_of}
-use Rattle.abstract_machine.specs.Registers.{register}
-use Rattle.abstract_machine.specs.Operators.{based, either_binary_of}
+use Rattle.word_semantics.specs.Registers.{register}
+use Rattle.word_semantics.specs.Operators.{based, either_binary_of}
 use Rattle.flow_code.specs.Threads.{Frame, Thread}
 use Rattle.flow_code.specs.Next.{one_more, in_frame, past, branch_to}
-use Rattle.abstract_machine.specs.Cells.{access_kind}
+use Rattle.word_semantics.specs.Cells.{access_kind}
 use Rattle.rr_base.specs.declared.position.Position.{Position}
-use Rattle.c_core.specs.declared.value.UnaryOp.{UnaryOp}
-use Rattle.c_core.specs.declared.value.UnaryOp.TheVariants as unary_op
-use Rattle.c_core.specs.declared.value.Change.{Change}
-use Rattle.c_core.specs.declared.value.Change.TheVariants as change
-use Rattle.c_core.specs.Core as core
-use Rattle.c_core.specs.Core.{Exp, null, object, global, load, unary, binary, move, advance, member, between, to_pointer, to_number, copy, both, either, conditional, comma, set_register, store, change_register, change_cell, Function, Program}
-use Rattle.c_core.specs.Runs.{Run, State, ◌>>=◌, result_at, counted, with_value}
-use Rattle.c_core.specs.Meaning as meaning
-use Rattle.c_core.specs.Meaning.{Calls, value, unary_of, changed}
-use Rattle.lower_parts.specs.Kept.{assigns, loses, copied_if}
+use Rattle.core_tree.specs.declared.value.UnaryOp.{UnaryOp}
+use Rattle.core_tree.specs.declared.value.UnaryOp.TheVariants as unary_op
+use Rattle.core_tree.specs.declared.value.Change.{Change}
+use Rattle.core_tree.specs.declared.value.Change.TheVariants as change
+use Rattle.core_tree.specs.Core as core
+use Rattle.core_tree.specs.Core.{Exp, null, object, global, load, unary, binary, move, advance, member, between, to_pointer, to_number, copy, both, either, conditional, comma, set_register, store, change_register, change_cell, Function, Program}
+use Rattle.core_tree.specs.Runs.{Run, State, ◌>>=◌, result_at, counted, with_value}
+use Rattle.core_tree.specs.Meaning as meaning
+use Rattle.core_tree.specs.Meaning.{Calls, value, unary_of, changed}
+use Rattle.lowering_parts.specs.Kept.{assigns, loses, copied_if}
 use Rattle.flow_lower.specs.Lowered.{held, body_kept, statement_kinds, instr, lowered, function_kinds, body_code, exp_kinds, width, exp_size, exp_code, unary_work, change_work, computes, truth_code}
 use Rattle.lower_sound.specs.Follows.{Follows}
 use Rattle.lower_sound.proofs.Machine.{same_register, other_register, by_quiet, Shows}

@@ -5,21 +5,21 @@ use Rattle.sync_objects.specs.declared.operation.Op.TheVariants as op
 use Rattle.rr_base.specs.declared.trap.Trap.TheVariants as trap
 use Rattle.flow_code.specs.declared.act.Act.TheVariants as act
 use Rattle.flow_code.specs.declared.code.Code.{Code}
-use Rattle.abstract_machine.specs.declared.library_call.LibraryCall.{LibraryCall}
-use Rattle.abstract_machine.specs.Library.{piece_of}
-use Rattle.abstract_machine.specs.Registers.{words_of}
-use Rattle.abstract_machine.specs.declared.event.Action.{Action}
-use Rattle.abstract_machine.specs.declared.event.Action.TheVariants as action
-use Rattle.abstract_machine.specs.declared.event.Due.TheVariants as due
+use Rattle.word_semantics.specs.declared.library_call.LibraryCall.{LibraryCall}
+use Rattle.word_semantics.specs.Library.{piece_of}
+use Rattle.word_semantics.specs.Registers.{words_of}
+use Rattle.word_semantics.specs.declared.event.Action.{Action}
+use Rattle.word_semantics.specs.declared.event.Action.TheVariants as action
+use Rattle.word_semantics.specs.declared.event.Due.TheVariants as due
 use Rattle.flow_code.specs.declared.thread.Phase.{Phase}
 use Rattle.flow_code.specs.declared.thread.Phase.TheVariants as phase
 use Rattle.flow_code.specs.Threads.{Thread, line_of}
 use Rattle.flow_code.specs.Next.{act_at, due_of, action_at, stepped}
-use Rattle.abstract_machine.specs.Entries.{is_entry}
-use Rattle.abstract_machine.specs.Limits.{most_entries}
-use Rattle.c_core.specs.Core.{Program}
-use Rattle.c_core.specs.Runs.{Run, does, traps, ends}
-use Rattle.c_core.specs.Meaning.{main_of, arena_start}
+use Rattle.word_semantics.specs.Entries.{is_entry}
+use Rattle.word_semantics.specs.Limits.{most_entries}
+use Rattle.core_tree.specs.Core.{Program}
+use Rattle.core_tree.specs.Runs.{Run, does, traps, ends}
+use Rattle.core_tree.specs.Meaning.{main_of, arena_start}
 
 -- from one state a thread comes to another by quiet steps
 pub data Comes (code : Code) (s : SetupView) (t : ℕ) : Thread → Thread → Type 0 where

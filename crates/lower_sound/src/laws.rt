@@ -3,12 +3,12 @@ ghost use Rattle.std.specs.Prelude.{◌≡◌, ℕ, ◌≤◌, true, []};
 ghost use Rattle.sync_objects.specs.Setup.{SetupView};
 ghost use Rattle.flow_code.specs.Threads.{Thread};
 ghost use Rattle.flow_code.specs.Valid.{is_valid};
-ghost use Rattle.c_core.specs.Core.{Program};
-ghost use Rattle.c_core.specs.Meaning.{run_of};
+ghost use Rattle.core_tree.specs.Core.{Program};
+ghost use Rattle.core_tree.specs.Meaning.{run_of};
 ghost use Rattle.flow_lower.specs.Lowered.{lowered};
-ghost use Rattle.c_core.specs.Within.{IsWithin};
+ghost use Rattle.core_tree.specs.Within.{IsWithin};
 ghost use Rattle.lower_sound.specs.Follows.{Follows, IsAtStart};
-ghost use Rattle.c_core.specs.Sound.{IsSound};
+ghost use Rattle.core_tree.specs.Sound.{IsSound};
 
 /// From its start on, each thread of the code of a core tree without pointers to functions makes the events of the tree's
 /// thread whatever is answered: loads, stores, marks and operations in their order, each with the bytes that it prints, each

@@ -4,8 +4,8 @@ use Rattle.std.specs.Prelude.{slice_get}
 use Rattle.std.specs.List.{Contains}
 use Rattle.std.proofs.lemmas.Option.{same_Some}
 use Rattle.sync_objects.specs.Setup.{SetupView, IsWithinLimits}
-use Rattle.abstract_machine.specs.declared.event.Due.{Due}
-use Rattle.abstract_machine.specs.declared.event.Due.TheVariants as due
+use Rattle.word_semantics.specs.declared.event.Due.{Due}
+use Rattle.word_semantics.specs.declared.event.Due.TheVariants as due
 use Rattle.flow_code.specs.declared.act.Act.{Act}
 use Rattle.flow_code.specs.declared.act.Act.TheVariants as act
 use Rattle.flow_code.specs.declared.act.Instr.{Instr}
@@ -28,26 +28,26 @@ use Rattle.flow_code.proofs.ValidParts.{each, few_locks, function_is_fit, region
 use Rattle.facts.specs.declared.pair.Pair.{Pair}
 use Rattle.profiles.specs.declared.profile.Profile.{Profile}
 use Rattle.facts.specs.PointsTo.{Tables}
-use Rattle.weak_facts.specs.declared.grain.Grained.{Grained}
-use Rattle.weak_facts.specs.declared.range.Range.{Range}
-use Rattle.weak_facts.specs.Grains.{AreGrains}
-use Rattle.weak_facts.specs.Ranges.{ranges_of}
+use Rattle.weak_lock_facts.specs.declared.grain.Grained.{Grained}
+use Rattle.weak_lock_facts.specs.declared.range.Range.{Range}
+use Rattle.weak_lock_facts.specs.Grains.{AreGrains}
+use Rattle.weak_lock_facts.specs.Ranges.{ranges_of}
 use Rattle.weak_code.specs.Stripped.{is_plain}
 use Rattle.weak_code.specs.Weakened.{weakened}
-use Rattle.weak_sound.specs.Apart.{loops_are_apart}
-use Rattle.weak_ways.specs.LoopsClosed.{loops_are_closed}
-use Rattle.weak_ways.specs.Walked.{Opening}
-use Rattle.weak_ways.specs.Ways.{Way}
-use Rattle.weak_ways.proofs.Covered.{returns_give_all, opened_once}
-use Rattle.weak_ways.proofs.Guarded.{In, in_contains, contains_in}
-use Rattle.weak_ways.proofs.Holdings.{GiveAll, some_many}
-use Rattle.weak_ways.proofs.Opened.{nesting_many}
+use Rattle.weak_valid.specs.Apart.{loops_are_apart}
+use Rattle.guard_paths.specs.LoopsClosed.{loops_are_closed}
+use Rattle.guard_paths.specs.Walked.{Opening}
+use Rattle.guard_paths.specs.Ways.{Way}
+use Rattle.guard_paths.proofs.Covered.{returns_give_all, opened_once}
+use Rattle.guard_paths.proofs.Guarded.{In, in_contains, contains_in}
+use Rattle.guard_paths.proofs.Holdings.{GiveAll, some_many}
+use Rattle.guard_paths.proofs.Opened.{nesting_many}
 use Rattle.core_run.specs.Histories.{IsReachable}
 use Rattle.core_run.specs.Machine.{Told}
-use Rattle.runs.specs.Steps.{State}
-use Rattle.held_locks.specs.Holders.{holds_stripe}
-use Rattle.held_locks.specs.ThreadStripes.{IsOfMemory}
-use Rattle.held_locks.proofs.Accesses.{access_holds}
+use Rattle.run_theory.specs.Steps.{State}
+use Rattle.lock_ownership.specs.Holders.{holds_stripe}
+use Rattle.lock_ownership.specs.ThreadStripes.{IsOfMemory}
+use Rattle.lock_ownership.proofs.Accesses.{access_holds}
 use Rattle.open_regions.specs.OpenStripes.{is_exit, HoldsItsOpen}
 use Rattle.open_regions.proofs.Walking.{OpenOnce, times_in}
 use Rattle.open_regions.proofs.Promises.{promised, promised_library, HoldsBy}

@@ -12,11 +12,11 @@ use Rattle.flow_code.specs.Holding.{takes}
 use Rattle.flow_code.specs.Next.{act_at, one_made, result_of}
 use Rattle.flow_code.specs.Threads.{Frame, Thread, OpenRegion, instr_in, objects_in}
 use Rattle.loop_bounds.specs.Turns.{Puts}
-use Rattle.weak_ways.specs.Walked.{Opening, begins as walk_begins}
-use Rattle.weak_ways.specs.Ways.{begins}
-use Rattle.weak_ways.proofs.Guarded.{In}
-use Rattle.weak_ways.proofs.Opened.{many}
-use Rattle.weak_ways.proofs.Holdings.{is_of, Kept, is_call, functions_of, at_left, at_end, length_more, length_map, way_on, some_many}
+use Rattle.guard_paths.specs.Walked.{Opening, begins as walk_begins}
+use Rattle.guard_paths.specs.Ways.{begins}
+use Rattle.guard_paths.proofs.Guarded.{In}
+use Rattle.guard_paths.proofs.Opened.{many}
+use Rattle.guard_paths.proofs.Holdings.{is_of, Kept, is_call, functions_of, at_left, at_end, length_more, length_map, way_on, some_many}
 use Rattle.open_regions.specs.OpenStripes.{is_exit}
 use Rattle.open_regions.proofs.Walking.{OpenOnce, ActAt, Walks, walk_on}
 use Rattle.open_regions.proofs.Promises.{promised, in_promised, exit_promised, both_true, Stands, Holds, HoldsBy, arrives}

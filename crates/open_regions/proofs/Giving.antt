@@ -13,13 +13,13 @@ use Rattle.flow_code.specs.declared.code.Code.{Code}
 use Rattle.flow_code.specs.Holding.{has_stripes, open_ones, with_pairs, takes_region, takes, is_open_of, last_place, open_place, region_with, cut}
 use Rattle.flow_code.specs.Next.{act_at}
 use Rattle.flow_code.specs.Threads.{Frame, Thread, OpenRegion, instr_in}
-use Rattle.weak_ways.specs.Walked.{Opening, closed_with}
-use Rattle.weak_ways.specs.Ways.{closed}
-use Rattle.weak_ways.proofs.Guarded.{In}
-use Rattle.weak_ways.proofs.Standing.{times, times_closed, times_other}
-use Rattle.weak_ways.proofs.Opened.{many, in_filtered, of_filtered, set_other, set_here, has_some}
-use Rattle.weak_ways.proofs.Holdings.{is_of, Kept, apart, way_on, takes_is, none_here, some_many}
-use Rattle.weak_ways.proofs.Givings.{Giving, last_none}
+use Rattle.guard_paths.specs.Walked.{Opening, closed_with}
+use Rattle.guard_paths.specs.Ways.{closed}
+use Rattle.guard_paths.proofs.Guarded.{In}
+use Rattle.guard_paths.proofs.Standing.{times, times_closed, times_other}
+use Rattle.guard_paths.proofs.Opened.{many, in_filtered, of_filtered, set_other, set_here, has_some}
+use Rattle.guard_paths.proofs.Holdings.{is_of, Kept, apart, way_on, takes_is, none_here, some_many}
+use Rattle.guard_paths.proofs.Givings.{Giving, last_none}
 use Rattle.open_regions.specs.OpenStripes.{is_exit}
 use Rattle.open_regions.proofs.Walking.{closed_other, OpenOnce, ActAt, walk_on, open_once}
 use Rattle.open_regions.proofs.Promises.{promised, in_promised, both_true, Has, Stands, Holds, HoldsBy, Keeps, has_kept, others_kept, arrives}

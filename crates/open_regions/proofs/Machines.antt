@@ -14,13 +14,13 @@ use Rattle.flow_code.specs.Threads.{Thread}
 use Rattle.flow_code.proofs.Settle.{settled_keeps}
 use Rattle.core_run.specs.Histories.{IsReachable}
 use Rattle.core_run.specs.Machine.{Told, machine, start_state}
-use Rattle.thread_flow.specs.Starts.{start_phase, start_thread}
+use Rattle.thread_interpreter.specs.Starts.{start_phase, start_thread}
 use Rattle.core_run.proofs.ThreadRanges.{start_thread_is}
-use Rattle.runs.specs.Labels.{Label, label_thread}
-use Rattle.runs.specs.Steps.{State}
-use Rattle.runs.proofs.Kept.{kept_along}
-use Rattle.weak_ways.specs.Reached.{is_early, Reached, starts, steps, loses, stops, shuts}
-use Rattle.held_locks.proofs.Stepping.{Makes, by_itself, by_revoke, by_stop, by_close, HasStepped, has_stepped}
+use Rattle.run_theory.specs.Labels.{Label, label_thread}
+use Rattle.run_theory.specs.Steps.{State}
+use Rattle.run_theory.proofs.Kept.{kept_along}
+use Rattle.guard_paths.specs.Reached.{is_early, Reached, starts, steps, loses, stops, shuts}
+use Rattle.lock_ownership.proofs.Stepping.{Makes, by_itself, by_revoke, by_stop, by_close, HasStepped, has_stepped}
 
 module _ (code : Code) (s : SetupView) where
   pub settled_reached : (t : ℕ) (th : Thread) → Reached code s t th → Reached code s t (settled code s t th)

@@ -3,8 +3,8 @@ use Rattle.std.proofs.Common.{◌≡◌, ℕ, ◌-◌, ◌*◌, ◌<◌, ◌≤�
 use Rattle.std.specs.Prelude.{slice_get, if◌then◌else◌, ◌==◌}
 use Rattle.std.proofs.lemmas.Bool.Decides.{nat_tests}
 use Rattle.sync_objects.specs.Setup.{SetupView}
-use Rattle.abstract_machine.specs.declared.library_call.LibraryCall.{LibraryCall}
-use Rattle.abstract_machine.specs.declared.library_call.LibraryCall.TheVariants as call
+use Rattle.word_semantics.specs.declared.library_call.LibraryCall.{LibraryCall}
+use Rattle.word_semantics.specs.declared.library_call.LibraryCall.TheVariants as call
 use Rattle.flow_code.specs.declared.act.Act.{Act}
 use Rattle.flow_code.specs.declared.act.Act.TheVariants as act
 use Rattle.flow_code.specs.declared.act.Instr.{Instr}
@@ -16,12 +16,12 @@ use Rattle.flow_code.specs.Next.{act_in}
 use Rattle.flow_code.specs.Stripes.{wants_number, first_lock, wanted}
 use Rattle.flow_code.specs.Threads.{Frame, Thread, OpenRegion, instr_in}
 use Rattle.loop_bounds.specs.Turns.{Goes}
-use Rattle.weak_ways.specs.Walked.{Opening, closed_with, opened_with}
-use Rattle.weak_ways.specs.Ways.{opened_by, Way}
-use Rattle.weak_ways.proofs.Guarded.{In}
-use Rattle.weak_ways.proofs.Standing.{times}
-use Rattle.weak_ways.proofs.Holdings.{is_of, last_here, Kept, is_still, not_taking, none_here, takes_is, way_on, some_many}
-use Rattle.weak_ways.proofs.Walks.{goes_next, of_closed}
+use Rattle.guard_paths.specs.Walked.{Opening, closed_with, opened_with}
+use Rattle.guard_paths.specs.Ways.{opened_by, Way}
+use Rattle.guard_paths.proofs.Guarded.{In}
+use Rattle.guard_paths.proofs.Standing.{times}
+use Rattle.guard_paths.proofs.Holdings.{is_of, last_here, Kept, is_still, not_taking, none_here, takes_is, way_on, some_many}
+use Rattle.guard_paths.proofs.Walks.{goes_next, of_closed}
 use Rattle.open_regions.specs.OpenStripes.{is_exit, setting_of}
 use Rattle.open_regions.proofs.Walking.{OpenOnce, Is, ActAt, Walks, walk_on}
 

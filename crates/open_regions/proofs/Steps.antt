@@ -4,17 +4,17 @@ use Rattle.std.specs.Prelude.{slice_get, slice_set, if◌then◌else◌, ◌==�
 use Rattle.sync_objects.specs.Setup.{SetupView}
 use Rattle.sync_objects.specs.declared.operation.Op.TheVariants as op
 use Rattle.rr_base.specs.declared.trap.Trap.{Trap}
-use Rattle.abstract_machine.specs.declared.event.Due.{Due}
-use Rattle.abstract_machine.specs.declared.event.Due.TheVariants as due
-use Rattle.abstract_machine.specs.declared.event.Onward.{Onward}
-use Rattle.abstract_machine.specs.declared.event.Onward.TheVariants as onward
-use Rattle.abstract_machine.specs.declared.library_call.LibraryCall.{LibraryCall}
-use Rattle.abstract_machine.specs.declared.library_call.LibraryCall.TheVariants as call
-use Rattle.abstract_machine.specs.Cells.{cells_in}
-use Rattle.abstract_machine.specs.Library.{exit_onward, library_onward, piece_of}
-use Rattle.abstract_machine.specs.Pointers.{pointer_at}
-use Rattle.abstract_machine.specs.Registers.{register, words_of}
-use Rattle.abstract_machine.specs.Values.{number, word}
+use Rattle.word_semantics.specs.declared.event.Due.{Due}
+use Rattle.word_semantics.specs.declared.event.Due.TheVariants as due
+use Rattle.word_semantics.specs.declared.event.Onward.{Onward}
+use Rattle.word_semantics.specs.declared.event.Onward.TheVariants as onward
+use Rattle.word_semantics.specs.declared.library_call.LibraryCall.{LibraryCall}
+use Rattle.word_semantics.specs.declared.library_call.LibraryCall.TheVariants as call
+use Rattle.word_semantics.specs.Cells.{cells_in}
+use Rattle.word_semantics.specs.Library.{exit_onward, library_onward, piece_of}
+use Rattle.word_semantics.specs.Pointers.{pointer_at}
+use Rattle.word_semantics.specs.Registers.{register, words_of}
+use Rattle.word_semantics.specs.Values.{number, word}
 use Rattle.flow_code.specs.declared.act.Act.{Act}
 use Rattle.flow_code.specs.declared.act.Act.TheVariants as act
 use Rattle.flow_code.specs.declared.code.Code.{Code}
@@ -28,11 +28,11 @@ use Rattle.flow_code.specs.Next.{act_at, pointers_of, past, given, computed, ent
 use Rattle.flow_code.specs.Threads.{Frame, Thread, OpenRegion, is_main}
 use Rattle.flow_code.specs.Works.{work_of}
 use Rattle.loop_bounds.specs.Turns.{Goes, Puts}
-use Rattle.weak_ways.specs.Reached.{is_early, Reached, starts, steps, loses, stops, shuts}
-use Rattle.weak_ways.proofs.Guarded.{In}
-use Rattle.weak_ways.proofs.Holdings.{Kept, is_still, GiveAll}
-use Rattle.weak_ways.proofs.Givings.{giving}
-use Rattle.weak_ways.proofs.Threads.{KeptIn, IsEmpty, IsKept, reached_kept}
+use Rattle.guard_paths.specs.Reached.{is_early, Reached, starts, steps, loses, stops, shuts}
+use Rattle.guard_paths.proofs.Guarded.{In}
+use Rattle.guard_paths.proofs.Holdings.{Kept, is_still, GiveAll}
+use Rattle.guard_paths.proofs.Givings.{giving}
+use Rattle.guard_paths.proofs.Threads.{KeptIn, IsEmpty, IsKept, reached_kept}
 use Rattle.open_regions.specs.OpenStripes.{is_exit, setting_of}
 use Rattle.open_regions.proofs.Walking.{OpenOnce}
 use Rattle.open_regions.proofs.Promises.{Holds, HoldsBy, moved_on}

@@ -7,11 +7,11 @@ use Rattle.std.proofs.lemmas.Option.{same_Some}
 use Rattle.flow_code.specs.Holding.{number_of_pair, has_stripe, has_stripes, open_ones, with_pairs, after_pair, after_pairs, is_opened_here, latest, latest_with, pairs_at, opened}
 use Rattle.flow_code.specs.Stripes.{stripe_of, and_stripe, stripes_from}
 use Rattle.flow_code.specs.Threads.{Thread, OpenRegion}
-use Rattle.weak_sound.proofs.Accesses.{Each}
-use Rattle.weak_ways.proofs.Guarded.{In}
-use Rattle.weak_ways.proofs.Opened.{in_filtered, of_filtered, set_other, set_here, of_set, length_set, of_append, in_first, in_second, has_some, number_back}
-use Rattle.weak_ways.proofs.Holdings.{last_here}
-use Rattle.weak_ways.proofs.Takings.{last_item}
+use Rattle.weak_valid.proofs.Accesses.{Each}
+use Rattle.guard_paths.proofs.Guarded.{In}
+use Rattle.guard_paths.proofs.Opened.{in_filtered, of_filtered, set_other, set_here, of_set, length_set, of_append, in_first, in_second, has_some, number_back}
+use Rattle.guard_paths.proofs.Holdings.{last_here}
+use Rattle.guard_paths.proofs.Takings.{last_item}
 use Rattle.open_regions.proofs.Promises.{taken_at, both_true, two_true}
 
 abbrev fresh_of : Thread → List (ℕ × ℕ) → OpenRegion

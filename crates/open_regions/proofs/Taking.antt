@@ -12,11 +12,11 @@ use Rattle.flow_code.specs.Holding.{has_stripe, after_pairs, taken_pairs, left_f
 use Rattle.flow_code.specs.Next.{act_at}
 use Rattle.flow_code.specs.Stripes.{wants_number, first_lock, end_lock, stripes_from, wanted}
 use Rattle.flow_code.specs.Threads.{Frame, Thread, OpenRegion, instr_in}
-use Rattle.weak_ways.specs.Walked.{Opening}
-use Rattle.weak_ways.proofs.Guarded.{In}
-use Rattle.weak_ways.proofs.Standing.{times, one_if}
-use Rattle.weak_ways.proofs.Opened.{has_append, from_has, first_found}
-use Rattle.weak_ways.proofs.Holdings.{is_of, last_here, Kept, takes_is, way_on, some_many}
+use Rattle.guard_paths.specs.Walked.{Opening}
+use Rattle.guard_paths.proofs.Guarded.{In}
+use Rattle.guard_paths.proofs.Standing.{times, one_if}
+use Rattle.guard_paths.proofs.Opened.{has_append, from_has, first_found}
+use Rattle.guard_paths.proofs.Holdings.{is_of, last_here, Kept, takes_is, way_on, some_many}
 use Rattle.open_regions.specs.OpenStripes.{is_exit}
 use Rattle.open_regions.proofs.Walking.{OpenOnce, ActAt, walk_on}
 use Rattle.open_regions.proofs.Promises.{taken_at, taken_same, promised, in_promised, two_true, both_true, takes_at, Has, Stands, Partly, Holds, HoldsBy, Keeps, is_same, has_kept, others_kept, arrives}

@@ -12,12 +12,12 @@ use Rattle.flow_code.specs.declared.code.Function.{Function}
 use Rattle.flow_code.specs.Next.{act_in}
 use Rattle.flow_code.specs.Threads.{instr_in, instrs_in}
 use Rattle.loop_bounds.specs.Turns.{Goes}
-use Rattle.weak_ways.specs.Walked.{Opening, closed_with, opened_with, Walked, begins as walk_begins, goes as walk_goes}
-use Rattle.weak_ways.specs.Ways.{closed, Way}
-use Rattle.weak_ways.proofs.Guarded.{In}
-use Rattle.weak_ways.proofs.Holdings.{apart}
-use Rattle.weak_ways.proofs.Standing.{times, times_closed, times_other}
-use Rattle.weak_ways.proofs.Walks.{numbers, closed_numbers, way, in_numbers, in_times}
+use Rattle.guard_paths.specs.Walked.{Opening, closed_with, opened_with, Walked, begins as walk_begins, goes as walk_goes}
+use Rattle.guard_paths.specs.Ways.{closed, Way}
+use Rattle.guard_paths.proofs.Guarded.{In}
+use Rattle.guard_paths.proofs.Holdings.{apart}
+use Rattle.guard_paths.proofs.Standing.{times, times_closed, times_other}
+use Rattle.guard_paths.proofs.Walks.{numbers, closed_numbers, way, in_numbers, in_times}
 use Rattle.open_regions.specs.OpenStripes.{setting_of}
 
 -- ---- how often a region is open

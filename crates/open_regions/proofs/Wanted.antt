@@ -12,9 +12,9 @@ use Rattle.flow_code.specs.Holding.{has_stripe}
 use Rattle.flow_code.specs.Regions.{ascend, are_locks, locks_fit, base_fits, bound_is_whole, span_fits, spans_fit, region_fits}
 use Rattle.flow_code.specs.Kinds.{has_whole}
 use Rattle.flow_code.specs.Stripes.{among, or_zero, after_lock, first_lock, end_lock, cell_wants, base_word, stripes_in, bound_of, range_wants, span_wants, wants, wants_number, wanted}
-use Rattle.abstract_machine.specs.Registers.{register}
-use Rattle.abstract_machine.specs.Values.{number}
-use Rattle.weak_ways.proofs.Opened.{from_has}
+use Rattle.word_semantics.specs.Registers.{register}
+use Rattle.word_semantics.specs.Values.{number}
+use Rattle.guard_paths.proofs.Opened.{from_has}
 use Rattle.open_regions.proofs.Promises.{both_true}
 
 -- ---- ascending locks

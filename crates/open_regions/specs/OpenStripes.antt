@@ -2,7 +2,7 @@
 use Rattle.std.specs.Prelude.{◌≡◌, ℕ, ◌<◌, Bool, true, false, List, Option, Some, slice_get}
 use Rattle.std.specs.List.{Contains}
 use Rattle.sync_objects.specs.Setup.{SetupView}
-use Rattle.abstract_machine.specs.declared.library_call.LibraryCall.TheVariants as call
+use Rattle.word_semantics.specs.declared.library_call.LibraryCall.TheVariants as call
 use Rattle.flow_code.specs.declared.act.Act.{Act}
 use Rattle.flow_code.specs.declared.act.Act.TheVariants as act
 use Rattle.flow_code.specs.declared.code.Code.{Code}
@@ -12,10 +12,10 @@ use Rattle.flow_code.specs.Next.{pointers_in}
 use Rattle.flow_code.specs.Stripes.{wants}
 use Rattle.flow_code.specs.Threads.{Thread, instrs_in}
 use Rattle.loop_bounds.specs.Turns.{Setting}
-use Rattle.weak_ways.specs.Walked.{Opening, Walked}
+use Rattle.guard_paths.specs.Walked.{Opening, Walked}
 use Rattle.core_run.specs.Machine.{Told}
-use Rattle.runs.specs.Steps.{State}
-use Rattle.held_locks.specs.Holders.{holds_stripe}
+use Rattle.run_theory.specs.Steps.{State}
+use Rattle.lock_ownership.specs.Holders.{holds_stripe}
 
 -- the call ends its thread
 abbrev pub is_exit : Option Act → Bool

@@ -9,18 +9,18 @@ ghost use Rattle.flow_code.specs.Valid.{is_valid};
 ghost use Rattle.facts.specs.declared.pair.Pair.{Pair};
 ghost use Rattle.profiles.specs.declared.profile.Profile.{Profile};
 ghost use Rattle.facts.specs.PointsTo.{Tables};
-ghost use Rattle.weak_facts.specs.declared.grain.Grained.{Grained};
-ghost use Rattle.weak_facts.specs.declared.range.Range.{Range};
-ghost use Rattle.weak_facts.specs.Grains.{AreGrains};
-ghost use Rattle.weak_facts.specs.Ranges.{ranges_of};
+ghost use Rattle.weak_lock_facts.specs.declared.grain.Grained.{Grained};
+ghost use Rattle.weak_lock_facts.specs.declared.range.Range.{Range};
+ghost use Rattle.weak_lock_facts.specs.Grains.{AreGrains};
+ghost use Rattle.weak_lock_facts.specs.Ranges.{ranges_of};
 ghost use Rattle.weak_code.specs.Stripped.{is_plain};
 ghost use Rattle.weak_code.specs.Weakened.{weakened};
-ghost use Rattle.weak_sound.specs.Apart.{loops_are_apart};
-ghost use Rattle.weak_ways.specs.LoopsClosed.{loops_are_closed};
+ghost use Rattle.weak_valid.specs.Apart.{loops_are_apart};
+ghost use Rattle.guard_paths.specs.LoopsClosed.{loops_are_closed};
 ghost use Rattle.core_run.specs.Histories.{IsReachable};
 ghost use Rattle.core_run.specs.Machine.{Told};
-ghost use Rattle.runs.specs.Steps.{State};
-ghost use Rattle.held_locks.specs.ThreadStripes.{IsOfMemory};
+ghost use Rattle.run_theory.specs.Steps.{State};
+ghost use Rattle.lock_ownership.specs.ThreadStripes.{IsOfMemory};
 ghost use Rattle.open_regions.specs.OpenStripes.{is_exit, HoldsItsOpen};
 
 /// Where an access or a mark comes next in a thread, the thread holds all stripes that the open regions of its running frame

@@ -2,7 +2,7 @@
 use Rattle.std.proofs.Common.{◌≡◌, ℕ, ◌<◌, Bool, true, false, List, length, sym, subst, pos, ◌*ℤ◌}
 use Rattle.rr_base.specs.declared.layout.Place.{Place}
 use Rattle.flow_code.specs.declared.code.Code.{Code}
-use Rattle.abstract_machine.specs.Pointers.{directed}
+use Rattle.word_semantics.specs.Pointers.{directed}
 use Rattle.facts.specs.declared.constraint.Node.{Node}
 use Rattle.facts.specs.declared.constraint.Node.TheVariants.{Cells}
 use Rattle.facts.specs.declared.constraint.Constraint.TheVariants.{Given, Included, Shifted, Strided, Loaded, Stored}

@@ -9,22 +9,22 @@ use Rattle.rr_base.specs.declared.layout.Site.{Site}
 use Rattle.flow_code.specs.declared.act.Act.{Act}
 use Rattle.flow_code.specs.declared.act.Act.TheVariants as act
 use Rattle.flow_code.specs.declared.act.Instr.{Instr}
-use Rattle.abstract_machine.specs.declared.library_call.LibraryCall.{LibraryCall}
-use Rattle.abstract_machine.specs.declared.library_call.LibraryCall.TheVariants as call
+use Rattle.word_semantics.specs.declared.library_call.LibraryCall.{LibraryCall}
+use Rattle.word_semantics.specs.declared.library_call.LibraryCall.TheVariants as call
 use Rattle.flow_code.specs.declared.code.Code.{Code}
 use Rattle.flow_code.specs.declared.code.Function.{Function}
 use Rattle.flow_code.specs.declared.work.Work.{Work}
 use Rattle.flow_code.specs.declared.work.Work.TheVariants as work
 use Rattle.flow_code.specs.Works.{is_pointer}
 use Rattle.flow_code.specs.Threads.{is_main_in}
-use Rattle.abstract_machine.specs.Pointers.{base_at}
+use Rattle.word_semantics.specs.Pointers.{base_at}
 use Rattle.flow_code.specs.Kinds.{has_register, has_pointer, has_whole, has_kind, have_kinds, formal_kinds, is_site, work_fits, value_fits, call_fits, may_start, starts_fit, library_value_fits, act_fits}
-use Rattle.abstract_machine.specs.Kinds.{library_kinds}
+use Rattle.word_semantics.specs.Kinds.{library_kinds}
 use Rattle.flow_code.specs.Addresses.{address_at, is_address, word_fits, words_fit, globals_fit}
 use Rattle.flow_code.specs.Order.{order_fits}
 use Rattle.flow_code.specs.Valid.{registers_fit, acts_fit, loops_fit, regions_fit, function_fits, functions_fit, all_locks_fit, has_one_main, most_locks, is_within_limits, is_valid}
 use Rattle.flow_code.proofs.Objects.{words_do_fit, address_site}
-use Rattle.abstract_machine.specs.Layouts.{layout_fits, sites_fit}
+use Rattle.word_semantics.specs.Layouts.{layout_fits, sites_fit}
 use Rattle.facts.specs.Blocks.{constant_at}
 use Rattle.facts.specs.declared.constraint.Node.{Node}
 use Rattle.facts.specs.declared.constraint.Node.TheVariants.{Register, Result, Ended}

@@ -1,6 +1,6 @@
 //! The constraints of a code, instruction by instruction, and of the start words of its globals.
 ghost use Rattle.std.specs.Prelude.{◌≡◌, ◌≤◌, ◌<◌, ◌+◌, ◌^◌, ◌++◌, [], ◌∷◌, ℕ, Some, drop, length, IfOk, OnOk};
-ghost use Rattle.abstract_machine.specs.declared.library_call.LibraryCall.TheVariants as call;
+ghost use Rattle.word_semantics.specs.declared.library_call.LibraryCall.TheVariants as call;
 ghost use Rattle.facts.specs.declared.constraint.Node.TheVariants as node;
 ghost use Rattle.facts.specs.declared.constraint.Constraint.TheVariants as constraint;
 ghost use Rattle.facts.specs.Blocks.{AreAmounts, amount_by, constant_at};
@@ -8,7 +8,7 @@ ghost use Rattle.flow_code.specs.declared.act.Act.TheVariants as act;
 ghost use Rattle.facts.specs.PointsTo as spec;
 
 use crate::globals::push_sites;
-use abstract_machine::LibraryCall;
+use word_semantics::LibraryCall;
 use facts::{Constraint, Node, amounts, block_starts};
 use flow_code::{Act, Code, Function, Instr, Work};
 use rr_base::{List, Place, sum};

@@ -1,7 +1,7 @@
 //! Rounds in which numbers are added to the sets of nodes, until all constraints are met.
 ghost use Rattle.std.specs.Prelude.{◌≡◌, ◌<◌, ◌≤◌, ◌+◌, ◌/◌, ◌^◌, ℕ, pos, ◌*ℤ◌, List, length, slice_get, Some, IfOk, OnOk, true, false, Bool};
 ghost use Rattle.std.specs.List.{Contains};
-ghost use Rattle.abstract_machine.specs.Pointers.{directed};
+ghost use Rattle.word_semantics.specs.Pointers.{directed};
 ghost use Rattle.facts.specs.declared.constraint.Node.TheVariants.{Cells};
 ghost use Rattle.facts.specs.PointsTo.{MayPoint, place_on, place, element_of as element_at, constraints_of};
 ghost use Rattle.points_to.specs.Ascending.{widths, rooms};

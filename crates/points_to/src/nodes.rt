@@ -1,11 +1,11 @@
 //! Where the rows of nodes stand, and places as numbers.
 ghost use Rattle.std.specs.Prelude.{◌≡◌, ◌<◌, ◌≤◌, ◌+◌, ◌*◌, ◌/◌, ◌^◌, ℕ, ℤ, pos, ◌*ℤ◌, unsigned_abs, length, Some};
-ghost use Rattle.abstract_machine.specs.Pointers.{directed as directed_by};
+ghost use Rattle.word_semantics.specs.Pointers.{directed as directed_by};
 ghost use Rattle.facts.specs.PointsTo as spec;
 ghost use Rattle.points_to.specs.Nodes.{number_of as number_for, place_from, block_at, index_at, IsPlace};
 
 use crate::sets::RowIndex;
-use abstract_machine::site_at;
+use word_semantics::site_at;
 use facts::Node;
 use flow_code::Code;
 use rr_base::{Place, Site};

@@ -3,18 +3,18 @@ use Rattle.std.proofs.Common.{◌≡◌, ℕ, Bool, true, false, refl, ap, ◌�
 use Rattle.std.specs.Prelude.{nat_lt, if◌then◌else◌}
 use Rattle.sync_objects.specs.Setup.{SetupView}
 use Rattle.sync_objects.specs.declared.entry.Entry.{Entry}
-use Rattle.abstract_machine.specs.declared.event.Action.{Action}
-use Rattle.abstract_machine.specs.declared.event.Action.TheVariants as action
+use Rattle.word_semantics.specs.declared.event.Action.{Action}
+use Rattle.word_semantics.specs.declared.event.Action.TheVariants as action
 use Rattle.flow_code.specs.declared.code.Code.{Code}
 use Rattle.flow_code.specs.Settle.{next, settled}
 use Rattle.flow_code.specs.Threads.{Thread}
 use Rattle.core_run.specs.Machine.{Told, effect_of, action_effect}
 use Rattle.core_run.specs.Words.{cells_of, has_object}
 use Rattle.core_run.proofs.Lawful.{effect_go}
-use Rattle.runs.specs.Labels.{Go}
-use Rattle.runs.specs.Laws.{Access, NoAccess, LoadOf, StoreOf, Conflict, access_of}
-use Rattle.runs.specs.Steps.{Refused, Loads, Stores, Operates, Change}
-use Rattle.plain_states.specs.States.{IsAccess}
+use Rattle.run_theory.specs.Labels.{Go}
+use Rattle.run_theory.specs.Laws.{Access, NoAccess, LoadOf, StoreOf, Conflict, access_of}
+use Rattle.run_theory.specs.Steps.{Refused, Loads, Stores, Operates, Change}
+use Rattle.erased_states.specs.States.{IsAccess}
 
 -- the access that an action is, where there are so many cells
 abbrev pub access_by : ℕ → Action → Access

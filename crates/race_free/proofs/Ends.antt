@@ -9,11 +9,11 @@ use Rattle.core_run.proofs.Lawful.{lawful}
 use Rattle.core_run.proofs.WholeRuns.{ends_converge, merges_walk, written_is_merge}
 use Rattle.lock_sound.specs.Weakened.{Analysed, IsAnalysed}
 use Rattle.lock_sound.proofs.Running.{weakened_runs}
-use Rattle.runs.specs.Labels.{Label}
-use Rattle.runs.specs.Merge.{IsMerge, written_merge}
-use Rattle.runs.specs.Paths.{AreComparable, BeginsLike, StopsBefore, path}
-use Rattle.runs.specs.Steps.{State}
-use Rattle.runs.proofs.Prefixes.{comparable_paths}
+use Rattle.run_theory.specs.Labels.{Label}
+use Rattle.run_theory.specs.Merge.{IsMerge, written_merge}
+use Rattle.run_theory.specs.Paths.{AreComparable, BeginsLike, StopsBefore, path}
+use Rattle.run_theory.specs.Steps.{State}
+use Rattle.run_theory.proofs.Prefixes.{comparable_paths}
 use Rattle.race_free.proofs.Meeting.{no_race}
 
 module _ (a : Analysed) (setup : SetupView) where

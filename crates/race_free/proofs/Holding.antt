@@ -5,10 +5,10 @@ use Rattle.std.specs.List.{Contains}
 use Rattle.std.proofs.lemmas.Option.{same_Some}
 use Rattle.rr_base.specs.Words.{offset_of}
 use Rattle.sync_objects.specs.Setup.{SetupView, IsWithinLimits}
-use Rattle.abstract_machine.specs.declared.library_call.LibraryCall.{LibraryCall}
-use Rattle.abstract_machine.specs.declared.library_call.LibraryCall.TheVariants as call
-use Rattle.abstract_machine.specs.Pointers.{known}
-use Rattle.abstract_machine.specs.Registers.{register}
+use Rattle.word_semantics.specs.declared.library_call.LibraryCall.{LibraryCall}
+use Rattle.word_semantics.specs.declared.library_call.LibraryCall.TheVariants as call
+use Rattle.word_semantics.specs.Pointers.{known}
+use Rattle.word_semantics.specs.Registers.{register}
 use Rattle.flow_code.specs.declared.act.Act.{Act}
 use Rattle.flow_code.specs.declared.act.Act.TheVariants as act
 use Rattle.flow_code.specs.declared.act.Instr.{Instr}
@@ -29,28 +29,28 @@ use Rattle.facts.specs.declared.pair.Pair.{Pair}
 use Rattle.profiles.specs.declared.profile.Profile.{Profile}
 use Rattle.facts.specs.PointsTo.{Tables}
 use Rattle.facts.specs.Summaries.{StandsAt}
-use Rattle.weak_facts.specs.declared.grain.Grained.{Grained}
-use Rattle.weak_facts.specs.declared.range.Range.{Range}
-use Rattle.weak_facts.specs.Grains.{AreGrains}
-use Rattle.weak_facts.specs.Ranges.{ranges_of}
+use Rattle.weak_lock_facts.specs.declared.grain.Grained.{Grained}
+use Rattle.weak_lock_facts.specs.declared.range.Range.{Range}
+use Rattle.weak_lock_facts.specs.Grains.{AreGrains}
+use Rattle.weak_lock_facts.specs.Ranges.{ranges_of}
 use Rattle.weak_code.specs.Stretches.{racy_accesses}
 use Rattle.weak_code.specs.Stripped.{is_plain, is_weak, plain_of}
 use Rattle.weak_code.specs.WeakLocks.{places_in}
 use Rattle.weak_code.specs.Weakened.{weakened}
 use Rattle.weak_code.proofs.Stripping.{strip-weakened}
-use Rattle.weak_sound.specs.Apart.{loops_are_apart}
-use Rattle.weak_ways.specs.LoopsClosed.{loops_are_closed}
-use Rattle.weak_ways.specs.Guards.{Guards, IsSeat, IsGuarded}
-use Rattle.weak_ways.specs.Walked.{Opening, Walked}
-use Rattle.weak_ways.proofs.Covered.{guarded}
-use Rattle.weak_ways.proofs.Guarded.{In, in_contains, contains_in}
+use Rattle.weak_valid.specs.Apart.{loops_are_apart}
+use Rattle.guard_paths.specs.LoopsClosed.{loops_are_closed}
+use Rattle.guard_paths.specs.Guards.{Guards, IsSeat, IsGuarded}
+use Rattle.guard_paths.specs.Walked.{Opening, Walked}
+use Rattle.guard_paths.proofs.Covered.{guarded}
+use Rattle.guard_paths.proofs.Guarded.{In, in_contains, contains_in}
 use Rattle.erasure.proofs.Bare.{same_pointers}
 use Rattle.core_run.specs.Histories.{IsReachable}
 use Rattle.core_run.specs.Machine.{Told}
-use Rattle.runs.specs.Steps.{State}
-use Rattle.held_locks.specs.Holders.{holds_stripe}
-use Rattle.held_locks.specs.ThreadStripes.{IsOfMemory}
-use Rattle.weak_ways.proofs.Walks.{way, numbers}
+use Rattle.run_theory.specs.Steps.{State}
+use Rattle.lock_ownership.specs.Holders.{holds_stripe}
+use Rattle.lock_ownership.specs.ThreadStripes.{IsOfMemory}
+use Rattle.guard_paths.proofs.Walks.{way, numbers}
 use Rattle.guard_stripes.proofs.Wants.{whole_wants}
 use Rattle.loop_stripes.specs.Settings.{IsSettingOf}
 use Rattle.loop_stripes.proofs.Wanting.{loop_wants}

@@ -14,14 +14,14 @@ use Rattle.profiles.specs.declared.profile.Profile.{Profile}
 use Rattle.facts.specs.Accesses.{Access}
 use Rattle.facts.specs.Pairs.{MayRace, ArePairs, access_in, act_of, access_less, access_same, place_same, places_of}
 use Rattle.facts.specs.PointsTo.{Tables}
-use Rattle.weak_facts.specs.declared.grain.Grained.{Grained}
-use Rattle.weak_facts.specs.declared.range.Range.{Range}
-use Rattle.weak_facts.specs.Grains.{AreGrains, stands_in}
+use Rattle.weak_lock_facts.specs.declared.grain.Grained.{Grained}
+use Rattle.weak_lock_facts.specs.declared.range.Range.{Range}
+use Rattle.weak_lock_facts.specs.Grains.{AreGrains, stands_in}
 use Rattle.weak_code.specs.declared.stretch.RacyAccess.{RacyAccess}
 use Rattle.weak_code.specs.Stretches.{racy_through, racy_access, racy_accesses}
 use Rattle.weak_code.specs.WeakLocks.{comes_again, places_in, lock_at, with_some, with_locks}
-use Rattle.weak_ways.proofs.Guarded.{In, contains_in, in_filter_map, number_in, number_kept}
-use Rattle.weak_ways.proofs.Opened.{in_filtered}
+use Rattle.guard_paths.proofs.Guarded.{In, contains_in, in_filter_map, number_in, number_kept}
+use Rattle.guard_paths.proofs.Opened.{in_filtered}
 
 -- ---- lists
 

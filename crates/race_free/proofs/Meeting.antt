@@ -6,10 +6,10 @@ use Rattle.rr_base.specs.Words.{length_of, offset_of, class_of}
 use Rattle.rr_base.specs.declared.layout.Place.{Place}
 use Rattle.sync_objects.specs.Setup.{SetupView, IsWithinLimits}
 use Rattle.sync_objects.specs.declared.mode.Mode.TheVariants.{Write}
-use Rattle.abstract_machine.specs.declared.event.Action.{Action}
-use Rattle.abstract_machine.specs.declared.event.Action.TheVariants as action
-use Rattle.abstract_machine.specs.Pointers.{known}
-use Rattle.abstract_machine.specs.Registers.{register}
+use Rattle.word_semantics.specs.declared.event.Action.{Action}
+use Rattle.word_semantics.specs.declared.event.Action.TheVariants as action
+use Rattle.word_semantics.specs.Pointers.{known}
+use Rattle.word_semantics.specs.Registers.{register}
 use Rattle.flow_code.specs.declared.act.Instr.{Instr}
 use Rattle.flow_code.specs.declared.code.Code.{Code}
 use Rattle.flow_code.specs.declared.code.Function.{Function}
@@ -27,39 +27,39 @@ use Rattle.profiles.specs.declared.profile.Profile.{Profile}
 use Rattle.facts.specs.Pairs.{MayRace, ArePairs, access_in, act_of, places_of}
 use Rattle.facts.specs.PointsTo.{Tables, IsPointsTo, element_of, place}
 use Rattle.facts.specs.Summaries.{AreSummaries, StandsAt}
-use Rattle.weak_facts.specs.declared.grain.Grained.{Grained}
-use Rattle.weak_facts.specs.declared.range.Range.{Range}
-use Rattle.weak_facts.specs.Grains.{AreGrains}
-use Rattle.weak_facts.specs.Ranges.{ranges_of}
+use Rattle.weak_lock_facts.specs.declared.grain.Grained.{Grained}
+use Rattle.weak_lock_facts.specs.declared.range.Range.{Range}
+use Rattle.weak_lock_facts.specs.Grains.{AreGrains}
+use Rattle.weak_lock_facts.specs.Ranges.{ranges_of}
 use Rattle.weak_code.specs.Stripped.{is_plain, strip}
 use Rattle.weak_code.specs.WeakLocks.{places_in, lock_at, locks_for}
 use Rattle.weak_code.specs.Weakened.{weakened}
 use Rattle.weak_code.proofs.Stripping.{strip-weakened}
-use Rattle.weak_sound.specs.Apart.{loops_are_apart}
-use Rattle.weak_sound.proofs.Valid.{weakened_valid}
-use Rattle.weak_ways.specs.LoopsClosed.{loops_are_closed}
-use Rattle.weak_ways.proofs.Guarded.{In}
+use Rattle.weak_valid.specs.Apart.{loops_are_apart}
+use Rattle.weak_valid.proofs.Valid.{weakened_valid}
+use Rattle.guard_paths.specs.LoopsClosed.{loops_are_closed}
+use Rattle.guard_paths.proofs.Guarded.{In}
 use Rattle.core_run.specs.Histories.{IsReachable, HasNoRace}
 use Rattle.core_run.specs.Machine.{Told, effect_of}
 use Rattle.core_run.specs.Words.{cells_of}
-use Rattle.runs.specs.Labels.{Go}
-use Rattle.runs.specs.Laws.{Conflict, access_of}
-use Rattle.runs.specs.Steps.{State}
-use Rattle.held_locks.specs.Holders.{holds_stripe}
-use Rattle.held_locks.specs.ThreadStripes.{IsOfMemory}
-use Rattle.held_locks.proofs.StripeLaws.{held_by_list, known_is}
-use Rattle.held_locksets.specs.Frames.{holds_at, IsListed}
-use Rattle.held_locksets.proofs.ByRows.{listed_at}
-use Rattle.held_locksets.proofs.Racing.{races}
-use Rattle.held_locksets.proofs.RootsInRuns.{root_settled}
-use Rattle.plain_states.specs.States.{IsAccess, IsPlainState, IsPlainAccess}
-use Rattle.plain_states.proofs.Reached.{plain_access, plain_state}
-use Rattle.words_point.specs.Objects.{Object, IsObject}
-use Rattle.words_point.proofs.Moving.{good_element}
-use Rattle.next_cells.specs.Accesses.{IsAccess as Accesses, Meet, at_rest, resting}
-use Rattle.next_cells.proofs.Meeting.{conflict_meets}
-use Rattle.next_cells.proofs.Resting.{resting_at}
-use Rattle.next_cells.proofs.Settled.{code_sets, points_at_rest}
+use Rattle.run_theory.specs.Labels.{Go}
+use Rattle.run_theory.specs.Laws.{Conflict, access_of}
+use Rattle.run_theory.specs.Steps.{State}
+use Rattle.lock_ownership.specs.Holders.{holds_stripe}
+use Rattle.lock_ownership.specs.ThreadStripes.{IsOfMemory}
+use Rattle.lock_ownership.proofs.StripeLaws.{held_by_list, known_is}
+use Rattle.lockset_sound.specs.Frames.{holds_at, IsListed}
+use Rattle.lockset_sound.proofs.ByRows.{listed_at}
+use Rattle.lockset_sound.proofs.Racing.{races}
+use Rattle.lockset_sound.proofs.RootsInRuns.{root_settled}
+use Rattle.erased_states.specs.States.{IsAccess, IsPlainState, IsPlainAccess}
+use Rattle.erased_states.proofs.Reached.{plain_access, plain_state}
+use Rattle.points_to_sound.specs.Objects.{Object, IsObject}
+use Rattle.points_to_sound.proofs.Moving.{good_element}
+use Rattle.access_cells.specs.Accesses.{IsAccess as Accesses, Meet, at_rest, resting}
+use Rattle.access_cells.proofs.Meeting.{conflict_meets}
+use Rattle.access_cells.proofs.Resting.{resting_at}
+use Rattle.access_cells.proofs.Settled.{code_sets, points_at_rest}
 use Rattle.lock_sound.specs.Weakened.{Analysed, IsAnalysed}
 use Rattle.race_free.proofs.Actions.{access_by, access_is, first_is, second_is}
 use Rattle.race_free.proofs.Holding.{holds, stands}
@@ -105,7 +105,7 @@ module _ (code : Code) (t : Tables) (ss : List Summary) (vs : List Pair) (rs : L
     -- ---- one of the two threads
 
     module _ (k : ℕ) (told x : Told) (at : slice_get state.threads k ≡ Some told) (there : slice_get bare.threads k ≡ Some x) (a : Action) (access : IsAccess a) (comes : next W setup k told.thread ≡ a) (is : IsPlainAccess W code setup k told.thread x.thread a)
-        (made : List Object) (cell : ℕ) (store : Bool) (m : Accesses code setup made (settled code setup k x.thread) cell store) (well : Rattle.words_point.specs.States.PointsWell code setup made (at_rest code setup bare)) where
+        (made : List Object) (cell : ℕ) (store : Bool) (m : Accesses code setup made (settled code setup k x.thread) cell store) (well : Rattle.points_to_sound.specs.States.PointsWell code setup made (at_rest code setup bare)) where
       abbrev pt : Thread
       pt = settled code setup k x.thread
 

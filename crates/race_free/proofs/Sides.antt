@@ -6,7 +6,7 @@ use Rattle.std.proofs.lemmas.Bool.{and_parts}
 use Rattle.std.proofs.lemmas.Option.{same_Some}
 use Rattle.rr_base.specs.declared.layout.Place.{Place}
 use Rattle.sync_objects.specs.Setup.{SetupView}
-use Rattle.abstract_machine.specs.declared.event.Action.{Action}
+use Rattle.word_semantics.specs.declared.event.Action.{Action}
 use Rattle.flow_code.specs.declared.act.Act.{Act}
 use Rattle.flow_code.specs.declared.act.Act.TheVariants as act
 use Rattle.flow_code.specs.declared.act.Instr.{Instr}
@@ -27,9 +27,9 @@ use Rattle.facts.specs.PointsTo.{Tables, IsPointsTo, MayPoint}
 use Rattle.facts.specs.Summaries.{StandsAt}
 use Rattle.facts.specs.declared.constraint.Node.TheVariants.{Register}
 use Rattle.weak_code.specs.Weakened.{retarget}
-use Rattle.weak_sound.proofs.RegionsFit.{access_pointer}
+use Rattle.weak_valid.proofs.RegionsFit.{access_pointer}
 use Rattle.core_run.specs.Machine.{Told}
-use Rattle.plain_states.specs.States.{IsPlainAccess, plain_place}
+use Rattle.erased_states.specs.States.{IsPlainAccess, plain_place}
 
 -- the place of a frame's instruction
 abbrev pub here : Frame → AccessAt

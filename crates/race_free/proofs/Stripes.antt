@@ -6,13 +6,13 @@ use Rattle.std.proofs.lemmas.Option.{slice_get-map}
 use Rattle.rr_base.specs.Words.{site_of, length_of, offset_of, class_of}
 use Rattle.rr_base.specs.declared.layout.Place.{Place}
 use Rattle.rr_base.specs.declared.layout.Site.{Site}
-use Rattle.abstract_machine.specs.Pointers.{site_at}
+use Rattle.word_semantics.specs.Pointers.{site_at}
 use Rattle.flow_code.specs.declared.code.Code.{Code}
 use Rattle.flow_code.specs.declared.code.LockInfo.{LockInfo}
 use Rattle.flow_code.specs.Stripes.{guards, lock_guards, stripe_at, class_in}
 use Rattle.facts.specs.PointsTo.{Tables, place, element_in, element_of}
 use Rattle.guard_stripes.proofs.Stripes.{eighth_small}
-use Rattle.weak_facts.specs.declared.grain.Grained.{Grained}
+use Rattle.weak_lock_facts.specs.declared.grain.Grained.{Grained}
 use Rattle.weak_code.specs.WeakLocks.{lock_for, locks_for}
 
 -- there are eight stripes at most

@@ -7,8 +7,8 @@ use Rattle.rr_base.specs.Words as pointer
 use Rattle.rr_base.specs.Words.{site_of, base_of, length_of, offset_of}
 use Rattle.rr_base.specs.declared.layout.CellKind.{CellKind}
 use Rattle.sync_objects.specs.Setup.{SetupView}
-use Rattle.abstract_machine.specs.Pointers.{known, is_kind, kind_in, resolved, site_at}
-use Rattle.abstract_machine.specs.Registers.{register}
+use Rattle.word_semantics.specs.Pointers.{known, is_kind, kind_in, resolved, site_at}
+use Rattle.word_semantics.specs.Registers.{register}
 use Rattle.flow_code.specs.declared.code.Code.{Code}
 use Rattle.flow_code.specs.declared.thread.Phase.{Phase}
 use Rattle.flow_code.specs.declared.thread.Phase.TheVariants as phase
@@ -18,14 +18,14 @@ use Rattle.flow_code.specs.Threads.{Thread, registers_in}
 use Rattle.flow_code.specs.Valid.{is_valid}
 use Rattle.flow_code.specs.Works.{is_pointer}
 use Rattle.core_run.specs.Machine.{Told}
-use Rattle.runs.specs.Steps.{State}
+use Rattle.run_theory.specs.Steps.{State}
 use Rattle.facts.specs.declared.constraint.Node.{Node}
 use Rattle.facts.specs.declared.constraint.Node.TheVariants.{Register}
-use Rattle.words_point.specs.Objects.{Object, IsObject, PointsInto, HasCell}
-use Rattle.words_point.specs.Pointing.{IsGood, nowhere, points, GoodPhase, GoodRunning}
-use Rattle.words_point.specs.States.{PointsWell}
-use Rattle.words_point.proofs.Moving.{good_known}
-use Rattle.words_point.proofs.Reaching.{of_kind_inv, cell_inv, HasCellAt}
+use Rattle.points_to_sound.specs.Objects.{Object, IsObject, PointsInto, HasCell}
+use Rattle.points_to_sound.specs.Pointing.{IsGood, nowhere, points, GoodPhase, GoodRunning}
+use Rattle.points_to_sound.specs.States.{PointsWell}
+use Rattle.points_to_sound.proofs.Moving.{good_known}
+use Rattle.points_to_sound.proofs.Reaching.{of_kind_inv, cell_inv, HasCellAt}
 
 -- the word is as the code reads it, and points to the cell of the object
 pub record PointsTo (code : Code) (s : SetupView) (made : List Object) (w c : ℕ) : Type 0 where

@@ -4,18 +4,18 @@ ghost use Rattle.sync_objects.specs.Setup.{SetupView, IsWithinLimits};
 ghost use Rattle.sync_objects.specs.declared.entry.Noted.{Noted};
 ghost use Rattle.sync_objects.specs.declared.object.ObjId.{ObjId};
 ghost use Rattle.sync_objects.specs.declared.operation.Op.{Op};
-ghost use Rattle.abstract_machine.specs.declared.event.Action.TheVariants.{Operate};
+ghost use Rattle.word_semantics.specs.declared.event.Action.TheVariants.{Operate};
 ghost use Rattle.flow_code.specs.Settle.{next};
 ghost use Rattle.core_run.specs.Histories.{run_of, HasItsCells, HasNoRace, HaveEnded, IsReachable, list_of, lists_of, entries_in};
 ghost use Rattle.core_run.specs.Machine.{Told, machine, start_state};
 ghost use Rattle.core_run.specs.Walks.{walk_of};
 ghost use Rattle.core_run.specs.Words.{cells_of, has_object};
 ghost use Rattle.lock_sound.specs.Weakened.{Analysed, IsAnalysed};
-ghost use Rattle.next_cells.specs.Accesses.{names_cell};
-ghost use Rattle.runs.specs.Labels.{Label};
-ghost use Rattle.runs.specs.Merge.{IsMerge, written_merge};
-ghost use Rattle.runs.specs.Paths.{AreComparable, BeginsLike, StopsBefore, path};
-ghost use Rattle.runs.specs.Steps.{State};
+ghost use Rattle.access_cells.specs.Accesses.{names_cell};
+ghost use Rattle.run_theory.specs.Labels.{Label};
+ghost use Rattle.run_theory.specs.Merge.{IsMerge, written_merge};
+ghost use Rattle.run_theory.specs.Paths.{AreComparable, BeginsLike, StopsBefore, path};
+ghost use Rattle.run_theory.specs.Steps.{State};
 
 /// No state that weakened code reaches is a race: in none of them do two threads have conflicting accesses next, over every
 /// list of labels, with revokes, stops and closes.

@@ -5,7 +5,7 @@ ghost use Rattle.flow_code.specs.Threads as threads;
 ghost use Rattle.facts.specs.Pairs as facts_pairs;
 ghost use Rattle.race_pairs.specs.Roots.{Marks, is_number};
 
-use abstract_machine::LibraryCall;
+use word_semantics::LibraryCall;
 use flow_code::{Act, Code, Instr};
 use std::alloc::{AllocError, Global};
 

@@ -2,8 +2,8 @@
 use Rattle.std.specs.Prelude.{◌≡◌, refl, ℕ, false, List, [], ◌∷◌, ◌++◌, codes, decimal}
 use Rattle.std.specs.Fmt.{digits, signed_decimal}
 use Rattle.std.specs.List.{flat_map}
-use Rattle.abstract_machine.specs.Values.{number}
-use Rattle.thread_flow.specs.declared.access.Access.{Access}
+use Rattle.word_semantics.specs.Values.{number}
+use Rattle.thread_interpreter.specs.declared.access.Access.{Access}
 
 -- a number with a blank after it
 abbrev pub number_text : ℕ → List ℕ

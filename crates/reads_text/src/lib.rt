@@ -1,5 +1,5 @@
-//! The text of the accesses that are kept of a run. It stands on `rr_base`, `number_text`, `abstract_machine`
-//! and `thread_flow`. It promises the exact lines.
+//! The text of the accesses that are kept of a run. It stands on `rr_base`, `number_text`, `word_semantics`
+//! and `thread_interpreter`. It promises the exact lines.
 #![tactic(auto)]
 
 #[cfg(test)]

@@ -1,7 +1,7 @@
 use crate::reads_text;
 use rr_base::List;
 use std::test::Fail;
-use thread_flow::Access;
+use thread_interpreter::Access;
 
 #[test]
 fn writes_a_line_for_each(rt: HostRuntime) -> Result<(), Fail> {

@@ -7,7 +7,7 @@ use itoa::Buffer;
 use number_text::push_numbered;
 use rr_base::{Bytes, List};
 use std::alloc::{AllocError, Global};
-use thread_flow::Access;
+use thread_interpreter::Access;
 
 // A number, and a blank after it.
 fn push_number(out: &mut Bytes, number: u32) -> Result<(), AllocError>

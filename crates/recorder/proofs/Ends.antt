@@ -7,14 +7,14 @@ use Rattle.std.proofs.lemmas.Option.{same_Some}
 use Rattle.sync_objects.specs.Setup.{SetupView}
 use Rattle.sync_objects.specs.declared.entry.Entry.{Entry}
 use Rattle.flow_code.specs.declared.code.Code.{Code}
-use Rattle.thread_flow.specs.declared.access.Formula.{Formula}
+use Rattle.thread_interpreter.specs.declared.access.Formula.{Formula}
 use Rattle.core_run.specs.declared.outcome.Walk.{Walk}
 use Rattle.core_run.specs.declared.outcome.Walk.TheVariants as walk
 use Rattle.core_run.specs.Histories.{HaveEnded}
 use Rattle.core_run.specs.Machine.{Told, machine, start_state}
 use Rattle.core_run.specs.Walks.{IsRefusedAt, IsUnfinished, WalkIs, walk_of}
-use Rattle.runs.specs.Steps.{State}
-use Rattle.runs.proofs.Solo.{walk-append}
+use Rattle.run_theory.specs.Steps.{State}
+use Rattle.run_theory.proofs.Solo.{walk-append}
 use Rattle.recorder.specs.Records.{IsWholeWalk}
 
 -- at each place of one of two lists that are as long the other has something, too

@@ -9,19 +9,19 @@ use Rattle.crew.specs.Counts.{RoseAtLeast, RoseBy, rises}
 use Rattle.sync_objects.specs.Setup.{SetupView, IsWithinLimits}
 use Rattle.sync_objects.specs.declared.entry.Entry.{Entry}
 use Rattle.sync_objects.specs.declared.entry.Noted.{Noted}
-use Rattle.abstract_machine.specs.declared.event.Action.TheVariants as action
+use Rattle.word_semantics.specs.declared.event.Action.TheVariants as action
 use Rattle.flow_code.specs.declared.code.Code.{Code}
 use Rattle.flow_code.specs.Next.{has_ended}
 use Rattle.flow_code.specs.Settle.{IsRunnable, settled}
 use Rattle.flow_code.proofs.Counts.{action_counts}
-use Rattle.thread_flow.specs.declared.access.Formula.{Formula}
+use Rattle.thread_interpreter.specs.declared.access.Formula.{Formula}
 use Rattle.core_run.specs.declared.outcome.Walk.{Walk}
 use Rattle.core_run.specs.Histories.{HasNoRace, lists_of, entries_in}
 use Rattle.core_run.specs.Machine.{Told, start_state}
 use Rattle.core_run.specs.Walks.{WalkIs, walk_of}
 use Rattle.core_run.proofs.Reached.{kept}
 use Rattle.core_run.proofs.WholeRuns.{merges_walk, written_is_merge}
-use Rattle.runs.specs.Merge.{Taken, Stuck, Takes, merged_after, merged_on, next_entry, total_length, written_merge}
+use Rattle.run_theory.specs.Merge.{Taken, Stuck, Takes, merged_after, merged_on, next_entry, total_length, written_merge}
 use Rattle.shared_cells.specs.Closing.{Closes}
 use Rattle.shared_cells.specs.Rule.{Board}
 use Rattle.shared_cells.specs.Seats.{AreSeats, IsSeatOf, view_of}
@@ -29,9 +29,9 @@ use Rattle.shared_cells.specs.Threads.{AreMarks, after_marks, own}
 use Rattle.shared_cells.specs.Views.{SeatView}
 use Rattle.shared_cells.specs.declared.seat.Seat.{Seat}
 use Rattle.thread_step.specs.Steps.{Stepping}
-use Rattle.walk_pieces.specs.declared.remains.Remains.{Remains}
-use Rattle.walk_pieces.specs.Remains.{IsWalked, RemainsOf, remains_in}
-use Rattle.walk_pieces.proofs.Remaining.{all_remain, same_remains}
+use Rattle.run_walk.specs.declared.remains.Remains.{Remains}
+use Rattle.run_walk.specs.Remains.{IsWalked, RemainsOf, remains_in}
+use Rattle.run_walk.proofs.Remaining.{all_remain, same_remains}
 use Rattle.weak_turns.specs.Carrying.{Carrying, IsSameCarrier, run_has_ended}
 use Rattle.weak_turns.specs.Shown.{Carries}
 use Rattle.weak_turns.proofs.Showing.{same_phase}

@@ -4,8 +4,8 @@ use Rattle.sync_objects.specs.declared.entry.Noted.{Noted}
 use Rattle.shared_cells.specs.Rule.{Board}
 use Rattle.shared_cells.specs.Seats.{view_of}
 use Rattle.shared_cells.specs.declared.seat.Seat.{Seat}
-use Rattle.walk_pieces.specs.declared.remains.Remains.{Remains}
-use Rattle.walk_pieces.specs.Remains.{remains_in}
+use Rattle.run_walk.specs.declared.remains.Remains.{Remains}
+use Rattle.run_walk.specs.Remains.{remains_in}
 use Rattle.weak_turns.specs.Carrying.{Carrying, IsSound, run_has_ended}
 
 -- it carries thread t of these cells, holds a stripe for so many turns before it may be revoked, and has had no turn

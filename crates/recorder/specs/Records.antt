@@ -3,15 +3,15 @@ use Rattle.std.specs.Prelude.{◌≡◌, List, Some}
 use Rattle.sync_objects.specs.Setup.{SetupView}
 use Rattle.sync_objects.specs.declared.entry.Entry.{Entry}
 use Rattle.flow_code.specs.declared.code.Code.{Code}
-use Rattle.thread_flow.specs.declared.access.Formula.{Formula}
+use Rattle.thread_interpreter.specs.declared.access.Formula.{Formula}
 use Rattle.core_run.specs.declared.outcome.Walk.{Walk}
 use Rattle.core_run.specs.declared.outcome.Walk.TheVariants as walk
 use Rattle.core_run.specs.Histories.{run_of, HaveEnded, lists_of, entries_in}
 use Rattle.core_run.specs.Machine.{Told, start_state}
 use Rattle.core_run.specs.Walks.{WalkIs, walk_of}
-use Rattle.runs.specs.Labels.{Label}
-use Rattle.runs.specs.Merge.{written_merge}
-use Rattle.runs.specs.Steps.{State}
+use Rattle.run_theory.specs.Labels.{Label}
+use Rattle.run_theory.specs.Merge.{written_merge}
+use Rattle.run_theory.specs.Steps.{State}
 
 -- the walk takes all entries, and all threads have ended
 abbrev pub IsWholeWalk : Walk → Type 0

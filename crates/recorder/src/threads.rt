@@ -6,7 +6,7 @@ ghost use Rattle.flow_code.specs.Settle.{IsRunnable};
 ghost use Rattle.recorder.specs.Carriers.{AreCarriers, AreParts};
 ghost use Rattle.recorder.specs.Records.{Records};
 ghost use Rattle.recorder.specs.Finished.{IsFinished};
-ghost use Rattle.runs.specs.Merge.{total_length};
+ghost use Rattle.run_theory.specs.Merge.{total_length};
 ghost use Rattle.shared_cells.specs.Seats.{AreAtStart, AreSeats};
 ghost use Rattle.sync_objects.specs.Setup.{IsWithinLimits};
 
@@ -21,9 +21,9 @@ use std::alloc::{AllocError, Global};
 use std::sync::Wait;
 use std::thread::Threads;
 use sync_objects::Setup;
-use thread_flow::Formula;
+use thread_interpreter::Formula;
 use thread_step::ThreadRun;
-use walk_pieces::{Remains, into_remains, whole_walk};
+use run_walk::{Remains, into_remains, whole_walk};
 use weak_turns::Carrier;
 
 /// The seats of all threads, their entries, and what else remains of their runs, in order.

@@ -13,8 +13,8 @@ use Rattle.sync_objects.specs.declared.operation.Op.{Op}
 use Rattle.sync_objects.specs.declared.operation.Op.TheVariants as op
 use Rattle.sync_objects.specs.declared.operation.OpName.{OpName}
 use Rattle.sync_objects.specs.declared.operation.OpName.TheVariants as name
-use Rattle.abstract_machine.specs.declared.event.Action.TheVariants as action
-use Rattle.abstract_machine.proofs.Calls.{is_from_outside}
+use Rattle.word_semantics.specs.declared.event.Action.TheVariants as action
+use Rattle.word_semantics.proofs.Calls.{is_from_outside}
 use Rattle.flow_code.specs.declared.code.Code.{Code}
 use Rattle.flow_code.specs.Next.{stepped, gave_up, stopped, slot_closed}
 use Rattle.flow_code.specs.Settle.{settled, next, IsRunnable}
@@ -22,12 +22,12 @@ use Rattle.flow_code.specs.Threads.{Thread}
 use Rattle.flow_code.proofs.Asked.{own_action}
 use Rattle.flow_code.proofs.Counts.{settled_count}
 use Rattle.core_run.specs.Machine.{Told, effect_of, operation, change_of, entry_of, may_revoke, may_stop, may_close}
-use Rattle.thread_flow.specs.Pieces.{piece_next}
+use Rattle.thread_interpreter.specs.Pieces.{piece_next}
 use Rattle.core_run.specs.Words.{has_object}
 use Rattle.core_run.proofs.Lawful.{effect_revoke, effect_stop, effect_close}
 use Rattle.log_walks.proofs.Floors.{leaves_floor}
-use Rattle.runs.specs.Labels.{Go, Revoke, Stop, Close, label_of}
-use Rattle.runs.specs.Steps.{Change, NotAllowed, Becomes, Refused, Operates}
+use Rattle.run_theory.specs.Labels.{Go, Revoke, Stop, Close, label_of}
+use Rattle.run_theory.specs.Steps.{Change, NotAllowed, Becomes, Refused, Operates}
 use Rattle.shared_cells.specs.Rule.{Board}
 use Rattle.shared_cells.specs.Seats.{view_of, IsSeatOf, place_in, AttemptIs, IsDone, IsRefused, HasMoved}
 use Rattle.shared_cells.specs.Threads.{Own, way_of, after_operation, pending}

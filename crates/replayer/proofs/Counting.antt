@@ -8,11 +8,11 @@ use Rattle.shared_cells.specs.Rule.{Board}
 use Rattle.shared_cells.specs.declared.seat.Seat.{Seat}
 use Rattle.sync_objects.specs.declared.entry.Entry.{Entry}
 use Rattle.sync_objects.specs.declared.entry.Noted.{Noted}
-use Rattle.runs.specs.Paths.{IsPrefixOf}
-use Rattle.runs.specs.Steps.{entries_of}
-use Rattle.runs.proofs.Lists.{own_in, own_out}
+use Rattle.run_theory.specs.Paths.{IsPrefixOf}
+use Rattle.run_theory.specs.Steps.{entries_of}
+use Rattle.run_theory.proofs.Lists.{own_in, own_out}
 use Rattle.replayer.specs.Following.{Following, made_in}
-use Rattle.walk_pieces.specs.declared.remains.Remains.{Remains}
+use Rattle.run_walk.specs.declared.remains.Remains.{Remains}
 use Rattle.replayer.specs.Replays.{AreFresh, HaveFollowed}
 use Rattle.replayer.specs.Wants.{noted_in}
 use Rattle.replayer.specs.declared.wanted.Wanted.{Wanted}

@@ -14,11 +14,11 @@ use Rattle.core_run.specs.Machine.{Told, effect_of}
 use Rattle.core_run.specs.Words.{cells_of, has_object, place_of}
 use Rattle.core_run.proofs.Beginnings.{start_word_at}
 use Rattle.core_run.proofs.Places.{place_past}
-use Rattle.followed_logs.specs.Following.{IsNoStep, Above, Early, Other, Barred}
+use Rattle.replay_theory.specs.Following.{IsNoStep, Above, Early, Other, Barred}
 use Rattle.log_walks.specs.Followed.{floor}
 use Rattle.log_walks.proofs.Floors.{ended_rests}
-use Rattle.runs.specs.Labels.{Go, label_of}
-use Rattle.runs.specs.Steps.{Change, NotAllowed, Refused, Operates}
+use Rattle.run_theory.specs.Labels.{Go, label_of}
+use Rattle.run_theory.specs.Steps.{Change, NotAllowed, Refused, Operates}
 use Rattle.shared_cells.specs.Views.{Note, SeatView}
 use Rattle.shared_cells.specs.Words.{objects_end}
 use Rattle.replayer.specs.Steps.{left_by, IsInStep, HasDeparted}

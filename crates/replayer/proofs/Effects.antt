@@ -8,16 +8,16 @@ use Rattle.sync_objects.specs.declared.entry.Entry.{Entry}
 use Rattle.sync_objects.specs.declared.object.ObjId.{ObjId}
 use Rattle.sync_objects.specs.declared.object.ObjId.TheVariants as object
 use Rattle.sync_objects.specs.declared.operation.Op.{Op}
-use Rattle.abstract_machine.specs.declared.event.Action.{Action}
-use Rattle.abstract_machine.specs.declared.event.Action.TheVariants as action
+use Rattle.word_semantics.specs.declared.event.Action.{Action}
+use Rattle.word_semantics.specs.declared.event.Action.TheVariants as action
 use Rattle.flow_code.specs.declared.code.Code.{Code}
 use Rattle.flow_code.specs.Settle.{settled, next}
 use Rattle.core_run.specs.Machine.{Told, effect_of, action_effect, entry_of, may_revoke, may_stop, may_close}
 use Rattle.core_run.specs.Words.{cells_of, has_object}
 use Rattle.core_run.proofs.Lawful.{effect_go, effect_revoke, effect_stop, effect_close}
-use Rattle.followed_logs.specs.Following.{IsNoStep}
-use Rattle.runs.specs.Labels.{Go, Revoke, Stop, Close}
-use Rattle.runs.specs.Steps.{Effect, Refused, Loads, Stores, Operates, Change}
+use Rattle.replay_theory.specs.Following.{IsNoStep}
+use Rattle.run_theory.specs.Labels.{Go, Revoke, Stop, Close}
+use Rattle.run_theory.specs.Steps.{Effect, Refused, Loads, Stores, Operates, Change}
 
 -- ---- a choice between an effect and none
 

@@ -16,15 +16,15 @@ use Rattle.flow_code.specs.Settle.{IsRunnable}
 use Rattle.core_run.specs.Histories.{HasNoRace, HaveEnded, IsReachable}
 use Rattle.core_run.specs.Machine.{Told, machine, start_state}
 use Rattle.core_run.specs.Walks.{IsRefusedAt, IsUnfinished, WalkIs, walk_of}
-use Rattle.thread_flow.specs.declared.access.Formula.{Formula}
+use Rattle.thread_interpreter.specs.declared.access.Formula.{Formula}
 use Rattle.core_run.specs.declared.outcome.Walk.{Walk}
 use Rattle.core_run.specs.declared.outcome.Walk.TheVariants as walk
 use Rattle.core_run.proofs.Reached.{kept}
-use Rattle.followed_logs.specs.Following.{Departs}
-use Rattle.followed_logs.specs.Numbered.{numbered, with_number}
+use Rattle.replay_theory.specs.Following.{Departs}
+use Rattle.replay_theory.specs.Numbered.{numbered, with_number}
 use Rattle.log_walks.specs.Followed.{floor, StandsBy, Followed}
-use Rattle.runs.specs.Paths.{IsPrefixOf}
-use Rattle.runs.specs.Steps.{State, entries_of}
+use Rattle.run_theory.specs.Paths.{IsPrefixOf}
+use Rattle.run_theory.specs.Steps.{State, entries_of}
 use Rattle.shared_cells.specs.Closing.{Closes}
 use Rattle.shared_cells.specs.Rule.{Board}
 use Rattle.shared_cells.specs.Seats.{view_of, AreSeats, IsSeatOf}
@@ -33,9 +33,9 @@ use Rattle.shared_cells.specs.Views.{SeatView, never}
 use Rattle.shared_cells.specs.Words.{objects_end, HaveGoneOn}
 use Rattle.shared_cells.specs.declared.seat.Seat.{Seat}
 use Rattle.shared_cells.proofs.ThreadSteps.{goes_nowhere, goes_marks}
-use Rattle.walk_pieces.specs.declared.remains.Remains.{Remains}
-use Rattle.walk_pieces.specs.Remains.{IsWalked, RemainsOf, remains_in}
-use Rattle.walk_pieces.proofs.Remaining.{all_remain, same_remains}
+use Rattle.run_walk.specs.declared.remains.Remains.{Remains}
+use Rattle.run_walk.specs.Remains.{IsWalked, RemainsOf, remains_in}
+use Rattle.run_walk.proofs.Remaining.{all_remain, same_remains}
 use Rattle.weak_turns.proofs.Showing.{same_phase}
 use Rattle.replayer.specs.Following.{Following, IsSound, IsOnTrack, StandsSo, next_of, is_past, is_over, made_in}
 use Rattle.replayer.specs.Replays.{IsFollower, HaveFollowed, entries_taken, has_ended_in}

@@ -11,7 +11,7 @@ use Rattle.sync_objects.specs.declared.entry.Entry.{Entry}
 use Rattle.sync_objects.specs.declared.entry.Noted.{Noted}
 use Rattle.flow_code.specs.declared.code.Code.{Code}
 use Rattle.core_run.specs.Machine.{start_told}
-use Rattle.followed_logs.specs.Numbered.{numbered}
+use Rattle.replay_theory.specs.Numbered.{numbered}
 use Rattle.thread_step.specs.Steps.{Stepping, told_of}
 use Rattle.shared_cells.specs.Rule.{Board}
 use Rattle.shared_cells.specs.Seats.{view_of, IsSeatOf, AreSeats, AreAtStart, start_view}

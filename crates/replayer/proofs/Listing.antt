@@ -6,10 +6,10 @@ use Rattle.std.proofs.lemmas.List.{append-nil}
 use Rattle.std.proofs.lemmas.Option.{same_Some}
 use Rattle.sync_objects.specs.declared.entry.Entry.{Entry}
 use Rattle.sync_objects.specs.declared.entry.Noted.{Noted}
-use Rattle.followed_logs.specs.Numbered.{with_number, numbered_after}
-use Rattle.runs.specs.Paths.{IsPrefixOf}
-use Rattle.runs.specs.Steps.{entries_of}
-use Rattle.runs.proofs.Lists.{own_in, own_out}
+use Rattle.replay_theory.specs.Numbered.{with_number, numbered_after}
+use Rattle.run_theory.specs.Paths.{IsPrefixOf}
+use Rattle.run_theory.specs.Steps.{entries_of}
+use Rattle.run_theory.proofs.Lists.{own_in, own_out}
 use Rattle.replayer.specs.Wants.{wanted_from, noted_in}
 use Rattle.replayer.specs.declared.wanted.Wanted.{Wanted}
 

@@ -9,10 +9,10 @@ use Rattle.sync_objects.specs.declared.entry.Noted.{Noted}
 use Rattle.sync_objects.specs.declared.object.ObjId.{ObjId}
 use Rattle.indexmap.specs.IndexMap.{IndexMap}
 use Rattle.entry_merge.specs.Counts.{count_in, AreCounted}
-use Rattle.followed_logs.specs.Numbered.{numbered, numbered_after, with_number}
-use Rattle.runs.specs.Merge.{entries_at}
-use Rattle.runs.specs.Same.{same_object}
-use Rattle.runs.proofs.Written.{entries_at-append}
+use Rattle.replay_theory.specs.Numbered.{numbered, numbered_after, with_number}
+use Rattle.run_theory.specs.Merge.{entries_at}
+use Rattle.run_theory.specs.Same.{same_object}
+use Rattle.run_theory.proofs.Written.{entries_at-append}
 use Rattle.replayer.specs.Wants.{wanted_from}
 use Rattle.replayer.proofs.Listing.{length-numbered}
 use Rattle.replayer.specs.declared.wanted.Wanted.{Wanted}

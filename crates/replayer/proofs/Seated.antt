@@ -11,9 +11,9 @@ use Rattle.sync_objects.specs.declared.object.ObjId.TheVariants as object
 use Rattle.sync_objects.specs.declared.operation.Op.{Op}
 use Rattle.sync_objects.specs.declared.operation.Op.TheVariants as op
 use Rattle.sync_objects.specs.declared.operation.OpName.TheVariants as name
-use Rattle.abstract_machine.specs.Limits.{most_entries, most_revokes}
-use Rattle.abstract_machine.specs.declared.event.Action.{Action}
-use Rattle.abstract_machine.specs.declared.event.Action.TheVariants as action
+use Rattle.word_semantics.specs.Limits.{most_entries, most_revokes}
+use Rattle.word_semantics.specs.declared.event.Action.{Action}
+use Rattle.word_semantics.specs.declared.event.Action.TheVariants as action
 use Rattle.flow_code.specs.declared.code.Code.{Code}
 use Rattle.flow_code.specs.Next.{stepped, has_begun, has_ended, holds}
 use Rattle.flow_code.specs.Settle.{next, settled, IsRunnable}
@@ -22,13 +22,13 @@ use Rattle.flow_code.proofs.Asked.{own_action}
 use Rattle.flow_code.proofs.Counts.{IsAccessAction, action_counts, settled_count, settled_keeps_all}
 use Rattle.core_run.specs.Machine.{Told, effect_of, action_effect, may_revoke, may_stop, may_close}
 use Rattle.core_run.specs.Words.{cells_of, has_object}
-use Rattle.followed_logs.specs.Following.{IsNoStep}
-use Rattle.runs.specs.Labels.{Label, Go, Revoke, Stop, Close, label_of}
-use Rattle.runs.specs.Steps.{Change, Operates}
+use Rattle.replay_theory.specs.Following.{IsNoStep}
+use Rattle.run_theory.specs.Labels.{Label, Go, Revoke, Stop, Close, label_of}
+use Rattle.run_theory.specs.Steps.{Change, Operates}
 use Rattle.shared_cells.specs.Rule.{Board}
 use Rattle.shared_cells.specs.Seats.{view_of, IsSeatOf, AttemptIs}
 use Rattle.shared_cells.specs.Threads.{after_load, after_store, after_mark}
-use Rattle.abstract_machine.specs.Values.{number as number_of_word}
+use Rattle.word_semantics.specs.Values.{number as number_of_word}
 use Rattle.shared_cells.specs.Views.{SeatView, with_thread}
 use Rattle.shared_cells.specs.declared.attempt.Attempt.{Attempt}
 use Rattle.shared_cells.specs.declared.seat.Seat.{Seat}

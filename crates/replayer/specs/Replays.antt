@@ -9,8 +9,8 @@ use Rattle.flow_code.specs.Next.{has_ended}
 use Rattle.shared_cells.specs.Rule.{Board}
 use Rattle.shared_cells.specs.Seats.{view_of}
 use Rattle.shared_cells.specs.declared.seat.Seat.{Seat}
-use Rattle.walk_pieces.specs.declared.remains.Remains.{Remains}
-use Rattle.walk_pieces.specs.Remains.{remains_in}
+use Rattle.run_walk.specs.declared.remains.Remains.{Remains}
+use Rattle.run_walk.specs.Remains.{remains_in}
 use Rattle.replayer.specs.Following.{Following, IsSound, is_over}
 use Rattle.replayer.specs.Wants.{wanted_of}
 

@@ -5,11 +5,11 @@ use Rattle.sync_objects.specs.Words.{number_of}
 use Rattle.sync_objects.specs.declared.entry.Noted.{Noted}
 use Rattle.sync_objects.specs.declared.object.ObjId.{ObjId}
 use Rattle.sync_objects.specs.declared.operation.Op.{Op}
-use Rattle.abstract_machine.specs.Limits.{most_entries, most_revokes}
+use Rattle.word_semantics.specs.Limits.{most_entries, most_revokes}
 use Rattle.flow_code.specs.Next.{has_ended, holds}
 use Rattle.flow_code.specs.Threads.{Thread}
 use Rattle.core_run.specs.Machine.{Told, machine}
-use Rattle.followed_logs.specs.Following.{Departs}
+use Rattle.replay_theory.specs.Following.{Departs}
 use Rattle.log_walks.specs.Followed.{floor}
 use Rattle.shared_cells.specs.Rule.{Board}
 use Rattle.shared_cells.specs.Seats.{view_of, place_in}

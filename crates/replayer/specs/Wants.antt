@@ -5,7 +5,7 @@ use Rattle.sync_objects.specs.declared.entry.Entry.{Entry}
 use Rattle.sync_objects.specs.declared.entry.Noted.{Noted}
 use Rattle.sync_objects.specs.declared.object.ObjId.TheVariants.{Mutex}
 use Rattle.sync_objects.specs.declared.operation.OpName.TheVariants.{Lock, Unlock}
-use Rattle.followed_logs.specs.Numbered.{numbered}
+use Rattle.replay_theory.specs.Numbered.{numbered}
 use Rattle.replayer.specs.declared.wanted.Wanted.{Wanted}
 
 -- the entries of a thread among these, of which the first one stands at this position

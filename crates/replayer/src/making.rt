@@ -1,7 +1,7 @@
 // The operation of an entry, by the thread that stands at its count.
 ghost use Rattle.std.specs.Prelude.{◌≡◌, ◌↔◌, IsTrue};
 ghost use Rattle.flow_code.specs.Settle.{IsRunnable};
-ghost use Rattle.runs.specs.Labels.{Close, Go, Revoke, Stop, label_of};
+ghost use Rattle.run_theory.specs.Labels.{Close, Go, Revoke, Stop, label_of};
 ghost use Rattle.sync_objects.specs.Names.{name_of};
 ghost use Rattle.sync_objects.specs.Setup.{IsWithinLimits};
 ghost use Rattle.sync_objects.specs.declared.object.ObjId.TheVariants as object;

@@ -1,6 +1,6 @@
 // What each thread has to make of a log.
 ghost use Rattle.std.specs.Prelude.{◌≡◌, ◌-◌, ◌<◌, ◌^◌, IfOk, length};
-ghost use Rattle.followed_logs.specs.Numbered.{numbered};
+ghost use Rattle.replay_theory.specs.Numbered.{numbered};
 ghost use Rattle.replayer.specs.Wants.{wanted_from};
 
 use crate::wanted::Wanted;

@@ -10,7 +10,7 @@ ghost use Rattle.shared_cells.specs.Seats.{AreAtStart, AreSeats};
 ghost use Rattle.sync_objects.specs.declared.entry.Entry.{Entry as EntryOf};
 ghost use Rattle.replayer.specs.Following.{Following, made_in};
 ghost use Rattle.replayer.specs.Replays.{AreDone, AreFollowers, AreFresh, AreThreads, AreWhole, HaveFollowed, entries_taken, has_ended_in};
-ghost use Rattle.walk_pieces.specs.Remains.{remains_in};
+ghost use Rattle.run_walk.specs.Remains.{remains_in};
 
 use crate::follower::Follower;
 use crate::numbering::{number_all, own_entries};
@@ -24,9 +24,9 @@ use std::alloc::{AllocError, Global};
 use std::sync::Wait;
 use std::thread::Threads;
 use sync_objects::{Entry, Setup};
-use thread_flow::Formula;
+use thread_interpreter::Formula;
 use thread_step::ThreadRun;
-use walk_pieces::{Remains, into_remains, whole_walk};
+use run_walk::{Remains, into_remains, whole_walk};
 
 // A follower for each seat, in order.
 fn followers<'c, 'a>(

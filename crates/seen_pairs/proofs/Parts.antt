@@ -10,11 +10,11 @@ use Rattle.sync_objects.specs.declared.object.ObjId.{ObjId}
 use Rattle.sync_objects.specs.declared.object.ObjId.TheVariants as object
 use Rattle.sync_objects.specs.declared.operation.OpName.{OpName}
 use Rattle.sync_objects.specs.declared.operation.OpName.TheVariants as name
-use Rattle.runs.specs.Labels.{Label, Go, label_thread, operation_label, revoke_label, label_of}
-use Rattle.runs.specs.Same.{same_entry}
-use Rattle.runs.specs.Steps.{Machine, State, stepped, added, count_of}
-use Rattle.runs.specs.Walk.{if_nothing, if_only, alone, made, part}
-use Rattle.runs.proofs.Swap.{steps_of}
+use Rattle.run_theory.specs.Labels.{Label, Go, label_thread, operation_label, revoke_label, label_of}
+use Rattle.run_theory.specs.Same.{same_entry}
+use Rattle.run_theory.specs.Steps.{Machine, State, stepped, added, count_of}
+use Rattle.run_theory.specs.Walk.{if_nothing, if_only, alone, made, part}
+use Rattle.run_theory.proofs.Swap.{steps_of}
 
 -- an entry's label is of its thread
 revoke_own : (t : ℕ) (obj : ObjId) → label_thread (revoke_label t obj) ≡ t

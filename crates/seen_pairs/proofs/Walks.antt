@@ -7,18 +7,18 @@ use Rattle.std.proofs.lemmas.Option.{same_Some, slice_get_within}
 use Rattle.sync_objects.specs.Setup.{SetupView}
 use Rattle.sync_objects.specs.declared.entry.Entry.{Entry}
 use Rattle.flow_code.specs.declared.code.Code.{Code}
-use Rattle.thread_flow.specs.declared.access.Access.{Access}
-use Rattle.thread_flow.specs.Flows.{Running}
+use Rattle.thread_interpreter.specs.declared.access.Access.{Access}
+use Rattle.thread_interpreter.specs.Flows.{Running}
 use Rattle.core_run.specs.Machine.{Told, machine, start_told, start_threads_from, start_state}
 use Rattle.core_run.specs.Shown.{running_thread, told_thread, RunAll, PartStep, AreStarted}
-use Rattle.thread_flow.specs.Stacks.{stack_of}
+use Rattle.thread_interpreter.specs.Stacks.{stack_of}
 use Rattle.core_run.specs.Walks.{walk_of}
 use Rattle.core_run.specs.Words.{start_words}
 use Rattle.core_run.proofs.WalkLoop.{Walked, walked_start, walked_more}
 use Rattle.core_run.proofs.Walked.{stands}
-use Rattle.runs.specs.Steps.{State}
-use Rattle.runs.specs.Walk.{part}
-use Rattle.runs.proofs.Solo.{walk-append}
+use Rattle.run_theory.specs.Steps.{State}
+use Rattle.run_theory.specs.Walk.{part}
+use Rattle.run_theory.proofs.Solo.{walk-append}
 use Rattle.seen_pairs.specs.Pairings.{no_reads, IsNoted, Follows, AreNoted}
 use Rattle.seen_pairs.specs.Seen.{stacks_in, AreAtOnce, WereAtOnce}
 use Rattle.seen_pairs.proofs.Lists.{none, some_at}

@@ -6,9 +6,9 @@ use Rattle.flow_code.specs.declared.code.Code.{Code}
 use Rattle.flow_code.specs.declared.code.Function.{Function}
 use Rattle.profiles.specs.Profile.{Text, Pair, ordered, AreAscending}
 use Rattle.core_run.specs.Machine.{Told, start_state}
-use Rattle.thread_flow.specs.Stacks.{stack_of}
+use Rattle.thread_interpreter.specs.Stacks.{stack_of}
 use Rattle.core_run.specs.Walks.{walk_of}
-use Rattle.runs.specs.Steps.{State}
+use Rattle.run_theory.specs.Steps.{State}
 
 -- the stacks of all threads; a thread that hasn't entered its first function has an empty one, and so has one that has ended
 abbrev pub stacks_in : State Told → List (List ℕ)

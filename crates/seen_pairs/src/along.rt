@@ -9,7 +9,7 @@ use flow_code::Code;
 use rr_base::{Bytes, List};
 use std::alloc::{AllocError, Global};
 use sync_objects::{Entry, Setup};
-use thread_flow::{Access, Formula};
+use thread_interpreter::{Access, Formula};
 
 // No access is asked for.
 fn no_reads() -> Formula

@@ -1,13 +1,13 @@
 // Pairs of functions that are at work at once, as a set.
 ghost use Rattle.std.specs.Prelude.{◌≡◌, ◌<◌, ℕ, false, OnOk, IfOk, Some, length, slice_get, slice_set, Contains};
-ghost use Rattle.thread_flow.specs.Flows.{Running};
-ghost use Rattle.thread_flow.specs.Stacks.{stack_of};
+ghost use Rattle.thread_interpreter.specs.Flows.{Running};
+ghost use Rattle.thread_interpreter.specs.Stacks.{stack_of};
 ghost use Rattle.seen_pairs.specs.Pairings.{Follows, IsElsewhere, Notes};
 
 use rr_base::List;
 use std::alloc::AllocError;
 use std::collections::BTreeSet;
-use thread_flow::Flow;
+use thread_interpreter::Flow;
 
 /// Pairs of functions, by their numbers.
 pub(crate) type Pairs = BTreeSet<(u32, u32)>;

@@ -11,7 +11,7 @@ use Rattle.flow_code.specs.declared.code.Code.{Code}
 use Rattle.core_run.specs.Histories.{IsReachable}
 use Rattle.core_run.specs.Machine.{Told}
 use Rattle.core_run.specs.Words.{cells_of, start_words}
-use Rattle.runs.specs.Steps.{State}
+use Rattle.run_theory.specs.Steps.{State}
 use Rattle.rr_base.proofs.Lists.{slice_get_inside}
 use Rattle.shared_cells.specs.Views.{SeatView, never}
 use Rattle.shared_cells.specs.Words.{objects_end, departure_place, first_words, HasGoneOn, HaveGoneOn}

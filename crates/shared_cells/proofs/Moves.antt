@@ -14,7 +14,7 @@ use Rattle.flow_code.specs.Settle.{IsRunnable}
 use Rattle.core_run.specs.Machine.{Told}
 use Rattle.core_run.specs.Words.{cells_of}
 use Rattle.core_run.proofs.Reached.{kept}
-use Rattle.runs.specs.Steps.{State}
+use Rattle.run_theory.specs.Steps.{State}
 use Rattle.rr_base.proofs.Lists.{slice_get_inside, slice_get-set_other, slice_get-set_within, slice_get-append_left}
 use Rattle.shared_cells.specs.Views.{Note, SeatView, with_thread, lowered}
 use Rattle.shared_cells.specs.Threads.{own}

@@ -10,20 +10,20 @@ use Rattle.sync_objects.specs.declared.object.ObjId.{ObjId}
 use Rattle.sync_objects.specs.declared.object.ObjId.TheVariants as object
 use Rattle.sync_objects.specs.declared.operation.Op.{Op}
 use Rattle.sync_objects.specs.declared.operation.Op.TheVariants as op
-use Rattle.abstract_machine.specs.declared.event.Action.{Action}
-use Rattle.abstract_machine.specs.declared.event.Action.TheVariants as action
+use Rattle.word_semantics.specs.declared.event.Action.{Action}
+use Rattle.word_semantics.specs.declared.event.Action.TheVariants as action
 use Rattle.flow_code.specs.declared.code.Code.{Code}
 use Rattle.flow_code.specs.Next.{stepped as thread_stepped, gave_up, stopped, slot_closed}
 use Rattle.flow_code.specs.Settle.{settled, next}
 use Rattle.flow_code.specs.Threads.{Thread}
 use Rattle.core_run.specs.Histories.{IsReachable}
 use Rattle.core_run.specs.Machine.{Told, effect_of, action_effect, operation, change_of, entry_of, operated, machine, start_state}
-use Rattle.thread_flow.specs.Pieces.{piece_next}
+use Rattle.thread_interpreter.specs.Pieces.{piece_next}
 use Rattle.core_run.specs.Words.{cells_of, has_object, place_of}
 use Rattle.core_run.proofs.Lawful.{effect_go, effect_revoke, effect_stop, effect_close}
-use Rattle.runs.specs.Labels.{Label, Go, Revoke, Stop, Close, label_thread}
-use Rattle.runs.specs.Steps.{State, Refused, Loads, Stores, Operates, Change, Becomes, Leaves, outcome, load_outcome, change_outcome, changed_outcome, step_of_thread, with_thread}
-use Rattle.runs.proofs.Kept.{reaches_step}
+use Rattle.run_theory.specs.Labels.{Label, Go, Revoke, Stop, Close, label_thread}
+use Rattle.run_theory.specs.Steps.{State, Refused, Loads, Stores, Operates, Change, Becomes, Leaves, outcome, load_outcome, change_outcome, changed_outcome, step_of_thread, with_thread}
+use Rattle.run_theory.proofs.Kept.{reaches_step}
 use Rattle.rr_base.proofs.Lists.{slice_get-set_other, slice_get-set_same}
 use Rattle.shared_cells.specs.Threads.{after_mark, after_marks, AreMarks, at_rest, after_load, after_store, Way, Own, Revokes, Stops, Closes, way_of, IsDueBy, IsDue, after_by, after_operation}
 

@@ -4,7 +4,7 @@ use Rattle.sync_objects.specs.Setup.{SetupView}
 use Rattle.flow_code.specs.declared.code.Code.{Code}
 use Rattle.core_run.specs.Histories.{IsReachable}
 use Rattle.core_run.specs.Machine.{Told}
-use Rattle.runs.specs.Steps.{State}
+use Rattle.run_theory.specs.Steps.{State}
 use Rattle.shared_cells.specs.Views.{Note, SeatView, never}
 use Rattle.shared_cells.specs.Threads.{own}
 use Rattle.shared_cells.specs.Words.{HaveGoneOn}

@@ -5,11 +5,11 @@ use Rattle.atomic_table.specs.Table.{Me, Step}
 use Rattle.sync_objects.specs.Words.{number_of}
 use Rattle.sync_objects.specs.declared.object.ObjId.{ObjId}
 use Rattle.sync_objects.specs.declared.operation.Op.{Op}
-use Rattle.abstract_machine.specs.declared.event.Action.TheVariants as action
+use Rattle.word_semantics.specs.declared.event.Action.TheVariants as action
 use Rattle.core_run.specs.Histories.{IsReachable}
 use Rattle.core_run.specs.Machine.{Told}
 use Rattle.core_run.specs.Words.{cells_of}
-use Rattle.runs.specs.Steps.{State}
+use Rattle.run_theory.specs.Steps.{State}
 use Rattle.shared_cells.specs.Views.{Note, SeatView, looked, missed, departing, lowered, never}
 use Rattle.shared_cells.specs.Threads.{pending, IsNext, loaded, stored, made}
 use Rattle.shared_cells.specs.Words.{objects_end, HasGoneOn}

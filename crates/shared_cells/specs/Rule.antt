@@ -10,7 +10,7 @@ use Rattle.flow_code.specs.Settle.{IsRunnable}
 use Rattle.core_run.specs.Words.{cells_of}
 use Rattle.core_run.specs.Histories.{IsReachable}
 use Rattle.core_run.specs.Machine.{Told, start_state}
-use Rattle.runs.specs.Steps.{State}
+use Rattle.run_theory.specs.Steps.{State}
 use Rattle.shared_cells.specs.Views.{SeatView, never}
 use Rattle.shared_cells.specs.Words.{objects_end, departure_place, memory_place, first_words, HaveGoneOn}
 use Rattle.shared_cells.specs.declared.asked.Asked.{Asked}

@@ -6,7 +6,7 @@ use Rattle.sync_objects.specs.Advance.{advanced, NotAllowed, Advances}
 use Rattle.sync_objects.specs.Words.{number_of}
 use Rattle.sync_objects.specs.declared.object.ObjId.{ObjId}
 use Rattle.sync_objects.specs.declared.operation.Op.{Op}
-use Rattle.abstract_machine.specs.declared.event.Action.{Action}
+use Rattle.word_semantics.specs.declared.event.Action.{Action}
 use Rattle.flow_code.specs.declared.code.Code.{Code}
 use Rattle.core_run.specs.Machine.{start_told}
 use Rattle.core_run.specs.Words.{cells_of, place_of}

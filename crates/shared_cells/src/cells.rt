@@ -1,7 +1,7 @@
 // The words and the calls on them.
 ghost use Rattle.std.specs.Prelude.{◌≡◌, ◌+◌, ◌*◌, ◌<◌, ◌≤◌, ◌++◌, [], ◌∷◌, true, length, IfOk};
 ghost use Rattle.std.specs.Vec.{vec_len, vec_capacity};
-ghost use Rattle.abstract_machine.specs.declared.event.Action.TheVariants as action;
+ghost use Rattle.word_semantics.specs.declared.event.Action.TheVariants as action;
 ghost use Rattle.flow_code.specs.Settle.{IsRunnable};
 ghost use Rattle.core_run.specs.Words.{cells_of, has_object, place_of};
 ghost use Rattle.shared_cells.specs.Views.{looked, departing, lowered};

@@ -9,14 +9,14 @@ use Rattle.flow_code.specs.declared.act.Instr.{Instr}
 use Rattle.flow_code.specs.declared.code.Function.{Function as FlowFunction}
 use Rattle.flow_code.specs.declared.code.LoopInfo.{LoopInfo}
 use Rattle.flow_code.specs.declared.region.Bound.{Bound}
-use Rattle.c_core.specs.Core.{Exp, Function, Program, Statement, block, compute, branch, branch_else, while_loop, do_loop, for_loop, break_at, continue_at, gives, Statements, no_statement, and_statement}
-use Rattle.lower_parts.specs.Kept.{kept, maybe_kept, statement_kept, statements_kept}
-use Rattle.lower_parts.specs.Sizes.{exp_size, maybe_size, test_size, statement_size, statements_size}
-use Rattle.lower_parts.specs.Loops.{lowered_size, limit_of, step_of, loop_of, statement_loops, statements_loops}
+use Rattle.core_tree.specs.Core.{Exp, Function, Program, Statement, block, compute, branch, branch_else, while_loop, do_loop, for_loop, break_at, continue_at, gives, Statements, no_statement, and_statement}
+use Rattle.lowering_parts.specs.Kept.{kept, maybe_kept, statement_kept, statements_kept}
+use Rattle.lowering_parts.specs.Sizes.{exp_size, maybe_size, test_size, statement_size, statements_size}
+use Rattle.lowering_parts.specs.Loops.{lowered_size, limit_of, step_of, loop_of, statement_loops, statements_loops}
 use Rattle.flow_lower.specs.Lowered.{held, instr, one, width, exp_code, maybe_code, test_code, statement_kinds, maybe_kinds, statement_code, statements_code, objects_code, arrivals_code, body_code, function_code, lowered}
 use Rattle.lower_sound.proofs.Lengths.{exp_length, maybe_length, test_length, statement_length, objects_length, arrivals_length}
-use Rattle.weak_sound.proofs.Accesses.{Each, each_append}
-use Rattle.weak_ways.specs.LoopsClosed.{jump_keeps, act_keeps, instrs_keep, loop_is_closed, loops_are_closed}
+use Rattle.weak_valid.proofs.Accesses.{Each, each_append}
+use Rattle.guard_paths.specs.LoopsClosed.{jump_keeps, act_keeps, instrs_keep, loop_is_closed, loops_are_closed}
 use Rattle.source_loops.proofs.Jumps.{ActJumps, Jumps, joined, exp_jumps, maybe_jumps, test_jumps, statement_jumps, statements_jumps}
 
 -- ---- instructions before a loop, in it and after it

@@ -5,10 +5,10 @@ use Rattle.flow_code.specs.declared.act.Act.{Act}
 use Rattle.flow_code.specs.declared.act.Act.TheVariants as act
 use Rattle.flow_code.specs.declared.act.Instr.{Instr}
 use Rattle.flow_code.specs.declared.work.Work.TheVariants as work
-use Rattle.abstract_machine.specs.declared.library_call.LibraryCall.{LibraryCall}
+use Rattle.word_semantics.specs.declared.library_call.LibraryCall.{LibraryCall}
 use Rattle.rr_base.specs.declared.position.Position.{Position}
-use Rattle.c_core.specs.Core as core
-use Rattle.c_core.specs.Core.{Exp, null, load, unary, binary, move, advance, member, between, to_pointer, to_number, copy, both, either, conditional, comma, set_register, store, change_register, change_cell, call, library, allocate, Exps, no_exp, and_exp, Statement, block, compute, branch, branch_else, while_loop, do_loop, for_loop, break_at, continue_at, gives, Statements, no_statement, and_statement}
+use Rattle.core_tree.specs.Core as core
+use Rattle.core_tree.specs.Core.{Exp, null, load, unary, binary, move, advance, member, between, to_pointer, to_number, copy, both, either, conditional, comma, set_register, store, change_register, change_cell, call, library, allocate, Exps, no_exp, and_exp, Statement, block, compute, branch, branch_else, while_loop, do_loop, for_loop, break_at, continue_at, gives, Statements, no_statement, and_statement}
 use Rattle.flow_lower.specs.Lowered.{held, instr, one, computes, gives_nothing, library_code, truth_code, width, value_registers, exp_size, exps_size, maybe_size, test_size, statement_size, statements_size, exp_code, exps_code, maybe_code, test_code, return_code, statement_kinds, maybe_kinds, statement_code, statements_code}
 
 -- each place to which the act may jump is such a one

@@ -6,12 +6,12 @@ use Rattle.std.proofs.lemmas.Bool.Decides.{nat_tests}
 use Rattle.flow_code.specs.declared.code.Function.{Function as FlowFunction}
 use Rattle.flow_code.specs.declared.code.LoopInfo.{LoopInfo}
 use Rattle.flow_code.specs.declared.region.Bound.{Bound}
-use Rattle.c_core.specs.Core.{Exp, Function, Program, Statement, block, compute, branch, branch_else, while_loop, do_loop, for_loop, break_at, continue_at, gives, Statements, no_statement, and_statement}
-use Rattle.lower_parts.specs.Kept.{kept, maybe_kept, statements_kept}
-use Rattle.lower_parts.specs.Sizes.{exp_size, maybe_size, test_size, statements_size}
-use Rattle.lower_parts.specs.Loops.{lowered_size, limit_of, step_of, loop_of, statement_loops, statements_loops}
+use Rattle.core_tree.specs.Core.{Exp, Function, Program, Statement, block, compute, branch, branch_else, while_loop, do_loop, for_loop, break_at, continue_at, gives, Statements, no_statement, and_statement}
+use Rattle.lowering_parts.specs.Kept.{kept, maybe_kept, statements_kept}
+use Rattle.lowering_parts.specs.Sizes.{exp_size, maybe_size, test_size, statements_size}
+use Rattle.lowering_parts.specs.Loops.{lowered_size, limit_of, step_of, loop_of, statement_loops, statements_loops}
 use Rattle.flow_lower.specs.Lowered.{function_code, lowered}
-use Rattle.weak_sound.specs.Apart.{loops_ascend, loops_are_apart}
+use Rattle.weak_valid.specs.Apart.{loops_ascend, loops_are_apart}
 
 -- ascending Marks, from one place to before another
 abbrev Between : ℕ → ℕ → List LoopInfo → Type 0

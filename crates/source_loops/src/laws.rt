@@ -1,9 +1,9 @@
 //! The laws of a source's loops.
 ghost use Rattle.std.specs.Prelude.{◌≡◌, true};
-ghost use Rattle.c_core.specs.Core.{Program};
+ghost use Rattle.core_tree.specs.Core.{Program};
 ghost use Rattle.flow_lower.specs.Lowered.{lowered};
-ghost use Rattle.weak_sound.specs.Apart.{loops_are_apart};
-ghost use Rattle.weak_ways.specs.LoopsClosed.{loops_are_closed};
+ghost use Rattle.weak_valid.specs.Apart.{loops_are_apart};
+ghost use Rattle.guard_paths.specs.LoopsClosed.{loops_are_closed};
 
 /// The Marks of the loops that a core tree's code lists ascend in each function.
 pub fn law_loops_are_apart()

@@ -1,5 +1,5 @@
-//! The loops of a source's code are as weak locks need them. It stands on `flow_lower`, `weak_sound` and
-//! `weak_ways`.
+//! The loops of a source's code are as weak locks need them. It stands on `flow_lower`, `weak_valid` and
+//! `guard_paths`.
 #![tactic(auto)]
 
 mod laws;

@@ -19,7 +19,7 @@ use Rattle.c_names.specs.Signatures.{signature_of}
 use Rattle.c_programs.specs.Programs.{after_outer}
 use Rattle.c_locals.specs.Addresses.{count_of_outer, program_addressed}
 use Rattle.c_sites.specs.Whole.{first_fault}
-use Rattle.c_core.specs.Core as core
+use Rattle.core_tree.specs.Core as core
 use Rattle.c_operators.specs.Context.{Source}
 use Rattle.c_elaborate.specs.Whole.{code_functions, outer_functions, outers_functions, source_of, core_of_source}
 use Rattle.call_targets.specs.Resolved.{choosers, resolved}
@@ -39,9 +39,9 @@ use Rattle.front.specs.declared.reading.SourceFault.{SourceFault}
 use Rattle.rr_base.specs.declared.layout.Place.{Place}
 use Rattle.std.specs.Option.{option_map}
 use Rattle.weak_code.specs.Weakened.{weakened_functions, weakened}
-use Rattle.weak_facts.specs.Ranges.{ranges_of}
-use Rattle.weak_facts.specs.declared.grain.Grained.{Grained}
-use Rattle.weak_facts.specs.declared.range.Range.{Range}
+use Rattle.weak_lock_facts.specs.Ranges.{ranges_of}
+use Rattle.weak_lock_facts.specs.declared.grain.Grained.{Grained}
+use Rattle.weak_lock_facts.specs.declared.range.Range.{Range}
 use Rattle.facts.specs.declared.pair.Pair.{Pair}
 use Rattle.source_names.specs.Spelled.{HaveTexts, IsSpelled, AreSpelled, NamesAreTexts}
 use Rattle.source_names.proofs.Numbered.{chooser_named}

@@ -15,11 +15,11 @@ use Rattle.c_programs.specs.Declarators.{params_faults, after_params}
 use Rattle.c_programs.specs.Statements.{parts_faults}
 use Rattle.c_locals.specs.Addresses.{numbered_from, parts_addressed}
 use Rattle.c_spots.specs.Spots.{in_function, definition_spots}
-use Rattle.c_core.specs.Core.{Program}
+use Rattle.core_tree.specs.Core.{Program}
 use Rattle.c_operators.specs.Context.{Source, global_named, function_counted}
 use Rattle.c_values.specs.Calls.{gives_pointer}
 use Rattle.c_elaborate.specs.Functions.{definition}
-use Rattle.c_core.specs.Sound.{IsFunction, IsAddress, IsSoundFunction}
+use Rattle.core_tree.specs.Sound.{IsFunction, IsAddress, IsSoundFunction}
 use Rattle.source_sound.proofs.Among.{AreAmong}
 use Rattle.source_sound.proofs.Environment.{IsFormed, IsFormedValue}
 use Rattle.source_sound.proofs.Premises.{HaveSpots}

@@ -26,16 +26,16 @@ use Rattle.c_types.specs.Operands.{Standing, no_type, a_value, a_place, operand_
 use Rattle.c_types.specs.Standing.{Target, no_target, some_target, target_of, malloc_standing, standing, is_main, can_be_used, Callee, callee, callee_wants, call_standing, given_type, format_of, some_library_callee, library_callee, function_callee, layered_function, type_function, signature_by, pointed_signature, pointer_callee, callee_of, is_root, is_text, fit_wanted}
 use Rattle.c_types.specs.Found.{where_it_comes}
 use Rattle.c_rules.specs.Faults.{first_place, count_of, count_faults, begins_with_text, some_library_wants, library_wants, pointer_wants, pointer_call_faults, wants_of, has_no_target, library_call_faults, unseen_call_faults, callee_faults, format_faults, root_faults, argument_faults, is_judged, where_judged, one_argument_faults, faults, arguments_faults}
-use Rattle.c_core.specs.Core as core
-use Rattle.c_core.specs.Core.{Function, Program}
-use Rattle.c_core.specs.Meaning.{is_pointer}
+use Rattle.core_tree.specs.Core as core
+use Rattle.core_tree.specs.Core.{Function, Program}
+use Rattle.core_tree.specs.Meaning.{is_pointer}
 use Rattle.c_operators.specs.declared.denoted.WordKind.{WordKind}
 use Rattle.c_operators.specs.Denoted.{Denoted, denoted_value, part_by, value_by, wanted_in}
 use Rattle.c_operators.specs.Context.{Context, site_at, home_of, function_counted, pointer_counted}
 use Rattle.c_operators.specs.Operators.{is_some_address}
 use Rattle.c_values.specs.Calls.{pointed_gives, pointer_called, is_pointer_wanted, kind_wanted, library_of, first_of, library_called, gives_pointer}
 use Rattle.c_values.specs.Expressions.{variable_denoted, held_word, called, denoted, arguments}
-use Rattle.c_core.specs.Sound.{HasSite, IsCallable, IsSoundExp, AreSound, value_kinds}
+use Rattle.core_tree.specs.Sound.{HasSite, IsCallable, IsSoundExp, AreSound, value_kinds}
 use Rattle.source_sound.proofs.Environment.{DenotedFits, IsFormedGiven, IsFormedResult, IsFormedTarget, AreFitting, wanted_kinds, Suits}
 use Rattle.source_sound.proofs.Apart.{not_nothing, append_nil, append_nil₃, comes_not, keeps, never}
 use Rattle.source_sound.proofs.Standings.{formed_or_void, address_layers, Stands}

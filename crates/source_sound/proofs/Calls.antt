@@ -2,8 +2,8 @@
 use Rattle.std.proofs.Common.{◌≡◌, ℕ, zero, suc, ◌==◌, nat_lt, Bool, true, false, not, ◌&&◌, List, [], ◌∷◌, replicate, Option, Some, None, refl, sym, ap, ◌∙◌, subst, arith}
 use Rattle.std.proofs.lemmas.Bool.{eqb-true, lt-ltb}
 use Rattle.c_text.specs.Texts.{Text}
-use Rattle.abstract_machine.specs.declared.library_call.LibraryCall.TheVariants as library_call
-use Rattle.abstract_machine.specs.Kinds.{library_kinds}
+use Rattle.word_semantics.specs.declared.library_call.LibraryCall.TheVariants as library_call
+use Rattle.word_semantics.specs.Kinds.{library_kinds}
 use Rattle.c_tree.specs.Tree.{Exp, named, text, Exps, no_exp, and_exp}
 use Rattle.rr_base.specs.declared.position.Position.{Position}
 use Rattle.c_types.specs.declared.types.BaseType.{BaseType}
@@ -21,14 +21,14 @@ use Rattle.c_types.specs.Library.{starred_type, an_int, wanted_by}
 use Rattle.c_types.specs.Format.{conversions}
 use Rattle.c_names.specs.Started.{third_name}
 use Rattle.c_types.specs.Standing.{is_main, can_be_used, is_pointer_to_void, wants_pointer_to_void, gives_pointer_to_void, has_root_types, is_root_type, is_root, fit_wanted}
-use Rattle.c_core.specs.Core as core
-use Rattle.c_core.specs.Core.{Function, Program}
-use Rattle.c_core.specs.Meaning.{is_pointer}
+use Rattle.core_tree.specs.Core as core
+use Rattle.core_tree.specs.Core.{Function, Program}
+use Rattle.core_tree.specs.Meaning.{is_pointer}
 use Rattle.c_operators.specs.Context.{Context, function_counted}
 use Rattle.c_operators.specs.declared.denoted.WordKind.{WordKind}
 use Rattle.c_operators.specs.Denoted.{is_pointing}
 use Rattle.c_values.specs.Calls.{is_pointer_wanted, kind_wanted, gives_pointer, started_function, library_of, first_of}
-use Rattle.c_core.specs.Sound.{IsWhole, IsFunction, Starts, IsSoundExp, AreSound, value_kinds}
+use Rattle.core_tree.specs.Sound.{IsWhole, IsFunction, Starts, IsSoundExp, AreSound, value_kinds}
 use Rattle.source_sound.proofs.Environment.{wanted_kinds, CallSuits, Suits}
 use Rattle.source_sound.proofs.Apart.{never, both}
 use Rattle.source_sound.proofs.Formats.{format_numbers, plain_numbers}

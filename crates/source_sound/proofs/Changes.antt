@@ -1,7 +1,7 @@
 -- Assignments, `++` and `--`: what they change is there, and takes what it gets.
 use Rattle.std.proofs.Common.{◌≡◌, ℕ, ◌≤◌, Bool, true, false, not, ◌&&◌, pos, List, [], ◌∷◌, Option, Some, None, refl, sym, ap, ◌∙◌}
 use Rattle.std.proofs.lemmas.Bool.{and_from}
-use Rattle.abstract_machine.specs.declared.operator.BinaryOp.{BinaryOp as FlowOp}
+use Rattle.word_semantics.specs.declared.operator.BinaryOp.{BinaryOp as FlowOp}
 use Rattle.c_tree.specs.declared.expr.AssignOp.{AssignOp}
 use Rattle.c_tree.specs.declared.expr.AssignOp.TheVariants as assign_op
 use Rattle.c_types.specs.declared.types.BaseType.{BaseType}
@@ -14,10 +14,10 @@ use Rattle.c_types.specs.Operands.{Standing, no_type, zero_literal, null_literal
 use Rattle.c_types.specs.Standing.{layered_struct, stepped, assign_standing}
 use Rattle.c_rules.specs.Faults.{standing_type, assigns_to, steps}
 use Rattle.rr_base.specs.declared.position.Position.{Position}
-use Rattle.c_core.specs.declared.value.Change.TheVariants as change
-use Rattle.c_core.specs.Core as core
-use Rattle.c_core.specs.Core.{Function, Program}
-use Rattle.c_core.specs.Meaning.{is_pointer}
+use Rattle.core_tree.specs.declared.value.Change.TheVariants as change
+use Rattle.core_tree.specs.Core as core
+use Rattle.core_tree.specs.Core.{Function, Program}
+use Rattle.core_tree.specs.Meaning.{is_pointer}
 use Rattle.c_operators.specs.declared.denoted.WordKind.{WordKind}
 use Rattle.c_operators.specs.declared.denoted.WordKind.TheVariants as kind
 use Rattle.c_operators.specs.Denoted.{Denoted, denoted_register, denoted_cells, denoted_zero, denoted_null, denoted_value, Part, part_by, operand_in, is_pointing, kind_of, value_in, wanted_in}

@@ -7,12 +7,12 @@ use Rattle.c_types.specs.declared.types.Layer.{Layer}
 use Rattle.c_types.specs.declared.types.Layer.TheVariants as layer
 use Rattle.c_types.specs.Operands.{Standing, no_type, zero_literal, null_literal, a_value, a_place, Operand, any_operand, whole, zero_operand, null_operand, pointing, function_operand, no_operand, operand_of, layered_operand, layered_value, as_value, is_typed, is_whole, settled, int_value}
 use Rattle.c_types.specs.Standing.{layered_struct, made_int, can_go}
-use Rattle.c_core.specs.Core as core
-use Rattle.c_core.specs.Core.{Function, Program}
-use Rattle.c_core.specs.Meaning.{is_pointer}
+use Rattle.core_tree.specs.Core as core
+use Rattle.core_tree.specs.Core.{Function, Program}
+use Rattle.core_tree.specs.Meaning.{is_pointer}
 use Rattle.c_operators.specs.Denoted.{Denoted, denoted_register, denoted_cells, denoted_zero, denoted_null, denoted_value}
 use Rattle.c_operators.specs.Operators.{is_some_address}
-use Rattle.c_core.specs.Sound.{IsWhole, IsSoundExp}
+use Rattle.core_tree.specs.Sound.{IsWhole, IsSoundExp}
 use Rattle.source_sound.proofs.Environment.{IsFormedLayered}
 use Rattle.source_sound.proofs.Apart.{never, never', some_not_none}
 use Rattle.source_sound.proofs.Standings.{formed_or_void, Gives, Stands}

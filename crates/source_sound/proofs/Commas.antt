@@ -3,12 +3,12 @@ use Rattle.std.proofs.Common.{◌≡◌, ℕ, List, [], ◌∷◌, Option, Some,
 use Rattle.rr_base.specs.declared.position.Position.{Position}
 use Rattle.c_types.specs.Operands.{Standing, as_value}
 use Rattle.c_types.specs.Standing.{following}
-use Rattle.c_core.specs.Core as core
-use Rattle.c_core.specs.Core.{Function, Program}
+use Rattle.core_tree.specs.Core as core
+use Rattle.core_tree.specs.Core.{Function, Program}
 use Rattle.c_operators.specs.Denoted.{Denoted, denoted_value}
 use Rattle.c_operators.specs.Context.{Context}
 use Rattle.c_operators.specs.Commas.{with_last, joined}
-use Rattle.c_core.specs.Sound.{IsSoundExp}
+use Rattle.core_tree.specs.Sound.{IsSoundExp}
 use Rattle.source_sound.proofs.Environment.{Suits}
 use Rattle.source_sound.proofs.Standings.{Stands}
 use Rattle.source_sound.proofs.Nodes.{comma_stands, after_stands}

@@ -23,7 +23,7 @@ use Rattle.c_programs.specs.Statements.{cells_of_declared, after_declared, globa
 use Rattle.c_numbers.specs.Numbered.{Numbered, number_seen, numbered_in, following, inside}
 use Rattle.c_locals.specs.Addresses.{after_name, after_names, past_statement, after_formal, after_formals, count_of_locals}
 use Rattle.rr_base.specs.declared.position.Position.{Position}
-use Rattle.c_core.specs.Core.{Function, Program}
+use Rattle.core_tree.specs.Core.{Function, Program}
 use Rattle.c_operators.specs.declared.home.Home.{Home}
 use Rattle.c_operators.specs.declared.home.Home.TheVariants as kept_in
 use Rattle.c_frames.specs.declared.local.Local.{Local}
@@ -33,7 +33,7 @@ use Rattle.c_values.specs.Expressions.{denoted_in}
 use Rattle.c_frames.specs.Locals.{local_declared, local_of, declares_locals, start_locals}
 use Rattle.c_frames.specs.Frames.{formal_of}
 use Rattle.c_statements.specs.Statements.{context_inside, here_after_object, here_after_declares, here_after_start, context_after}
-use Rattle.c_core.specs.Sound.{HasRegister}
+use Rattle.core_tree.specs.Sound.{HasRegister}
 use Rattle.source_sound.proofs.Environment.{IsFormed, DenotedFits}
 use Rattle.source_sound.proofs.Listed.{lists_of, DeclaredListed, ObjectsListed, DeclaresListed, FormalListed, FormalsListed, StartListed}
 use Rattle.source_sound.proofs.PointerNumbers.{PointsKnown, declared_number, declared_points, formal_number, formal_points}

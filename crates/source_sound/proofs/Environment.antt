@@ -19,8 +19,8 @@ use Rattle.c_types.specs.Operands.{Standing, zero_literal, null_literal, a_place
 use Rattle.c_types.specs.Standing.{Target, no_target, some_target, target_of, type_struct, type_function, is_main}
 use Rattle.c_types.specs.Signatures.{type_numbered, signature_numbered}
 use Rattle.c_spots.specs.Spots.{Spot}
-use Rattle.c_core.specs.Core.{Function, Program}
-use Rattle.c_core.specs.Meaning.{is_pointer}
+use Rattle.core_tree.specs.Core.{Function, Program}
+use Rattle.core_tree.specs.Meaning.{is_pointer}
 use Rattle.c_operators.specs.Denoted.{Denoted, denoted_register, denoted_cells, denoted_zero, denoted_null, denoted_value, is_pointing}
 use Rattle.c_operators.specs.declared.home.Home.{Home}
 use Rattle.c_operators.specs.declared.home.Home.TheVariants as kept
@@ -28,7 +28,7 @@ use Rattle.c_operators.specs.Context.{Context, home_of, home_numbered, site_at, 
 use Rattle.c_operators.specs.Operators.{is_some_address}
 use Rattle.c_values.specs.Calls.{is_pointer_wanted, gives_pointer}
 use Rattle.c_values.specs.Expressions.{variable_denoted}
-use Rattle.c_core.specs.Sound.{IsPointer, IsFunction, IsPointerType, HasSite, HasRegister, IsSoundExp}
+use Rattle.core_tree.specs.Sound.{IsPointer, IsFunction, IsPointerType, HasSite, HasRegister, IsSoundExp}
 
 -- ---- types
 

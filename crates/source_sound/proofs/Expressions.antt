@@ -1,6 +1,6 @@
 -- An expression without a fault: what stands for it is there, and is of the kind that is known of it.
 use Rattle.std.proofs.Common.{◌≡◌, ℕ, suc, pred, true, false, not, ◌&&◌, List, [], ◌∷◌, length, Option, Some, refl, sym, ap, subst, arith}
-use Rattle.abstract_machine.specs.declared.operator.BinaryOp.TheVariants as flow
+use Rattle.word_semantics.specs.declared.operator.BinaryOp.TheVariants as flow
 use Rattle.c_tree.specs.declared.ctype.CType.{CType}
 use Rattle.c_tree.specs.Tree.{Exp, comma, assign, conditional, binary, prefix, sizeof_exp, sizeof_type, cast, index, member, arrow, post_increment, post_decrement, named, call, number, letter, text, null, paren, Exps, no_exp, and_exp}
 use Rattle.rr_base.specs.declared.position.Position.{Position}
@@ -15,14 +15,14 @@ use Rattle.c_rules.specs.Faults.{mismatch, condition_takes, go_faults, step_faul
 use Rattle.c_types.specs.Constants.{is_address}
 use Rattle.c_locals.specs.Addresses.{where_address, number_of_operand, addressed, all_addressed}
 use Rattle.c_spots.specs.Spots.{is_malloc, where_malloc, allocations, all_allocations}
-use Rattle.c_core.specs.Core as core
-use Rattle.c_core.specs.Core.{Function, Program}
+use Rattle.core_tree.specs.Core as core
+use Rattle.core_tree.specs.Core.{Function, Program}
 use Rattle.c_operators.specs.Denoted.{Denoted, denoted_value, denoted_zero, value_by, position_of}
 use Rattle.c_operators.specs.Context.{Context, offset_in}
 use Rattle.c_operators.specs.Operators.{conditional_in, binary_in, prefix_in, cast_in}
 use Rattle.c_operators.specs.Commas.{with_last}
 use Rattle.c_values.specs.Expressions.{with_tail, is_pointer_type, denoted, tail_of, part}
-use Rattle.c_core.specs.Sound.{IsSoundExp}
+use Rattle.core_tree.specs.Sound.{IsSoundExp}
 use Rattle.source_sound.proofs.Environment.{IsFormedTarget, AreKept, places_of, Suits, HaveSites}
 use Rattle.source_sound.proofs.Apart.{not_nothing, append_nil, append_nil₃, append_nil₄, keeps}
 use Rattle.source_sound.proofs.Standings.{Stands, PartGives, stands_gives}

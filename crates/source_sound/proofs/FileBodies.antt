@@ -14,11 +14,11 @@ use Rattle.c_programs.specs.Programs.{after_function, after_outer}
 use Rattle.c_names.specs.Signatures.{signature_of}
 use Rattle.c_locals.specs.Addresses.{count_of_outer, code_addressed, outer_addressed, outers_addressed}
 use Rattle.c_spots.specs.Spots.{in_function, code_spots, outer_spots, outers_spots, known_after}
-use Rattle.c_core.specs.Core.{Program}
+use Rattle.core_tree.specs.Core.{Program}
 use Rattle.c_operators.specs.Context.{Source, global_named, function_counted}
 use Rattle.c_values.specs.Calls.{gives_pointer}
 use Rattle.c_elaborate.specs.Whole.{code_functions, outer_functions, outers_functions}
-use Rattle.c_core.specs.Sound.{IsAddress, IsFunction, IsSoundFunction}
+use Rattle.core_tree.specs.Sound.{IsAddress, IsFunction, IsSoundFunction}
 use Rattle.source_sound.proofs.Environment.{IsFormed}
 use Rattle.source_sound.proofs.Structs.{IsWithin, formed_within}
 use Rattle.source_sound.proofs.FileStructs.{type_cells}

@@ -24,8 +24,8 @@ use Rattle.c_programs.specs.Statements.{after_declared, after_objects}
 use Rattle.c_programs.specs.Programs.{after_function, after_outer, again_faults, is_main_signature, int_result, agree, agree_on_result, agree_on_params}
 use Rattle.c_locals.specs.Addresses.{count_of_outer}
 use Rattle.c_spots.specs.Spots.{known_after}
-use Rattle.c_core.specs.Core.{Function}
-use Rattle.c_core.specs.Meaning.{is_main}
+use Rattle.core_tree.specs.Core.{Function}
+use Rattle.core_tree.specs.Meaning.{is_main}
 use Rattle.c_frames.specs.declared.local.Local.{Local}
 use Rattle.c_operators.specs.Context.{Source, global_named}
 use Rattle.c_values.specs.Calls.{gives_pointer}
@@ -33,7 +33,7 @@ use Rattle.c_frames.specs.Frames.{formal_of, marked, local_pointers}
 use Rattle.c_elaborate.specs.Functions.{definition}
 use Rattle.c_frames.specs.Locals.{parts_locals}
 use Rattle.c_elaborate.specs.Whole.{code_functions, outer_functions, outers_functions}
-use Rattle.c_core.specs.Sound.{formal_kinds}
+use Rattle.core_tree.specs.Sound.{formal_kinds}
 use Rattle.source_sound.proofs.FileLists.{append_nil, where_nil, same_text, text_same}
 use Rattle.source_sound.proofs.Signatures.{kinds_wanted, IsKnown, is_pointer_formal}
 use Rattle.source_sound.proofs.FileScope.{IsFunction}

@@ -1,7 +1,7 @@
 -- The layouts of a whole file without a fault fit: those of each definition.
 use Rattle.std.proofs.Common.{◌≡◌, ℕ, zero, suc, ◌+◌, Bool, true, false, ◌&&◌, ◌==◌, List, [], ◌∷◌, length, replicate, Option, Some, None, is_some, is_none, refl, sym, ap, ◌∙◌, subst}
 use Rattle.std.proofs.lemmas.Bool.{or_parts}
-use Rattle.abstract_machine.specs.Layouts.{layout_fits}
+use Rattle.word_semantics.specs.Layouts.{layout_fits}
 use Rattle.source_sound.proofs.Signatures.{IsNumbered}
 use Rattle.c_types.specs.declared.types.BaseType.TheVariants as base
 use Rattle.c_types.specs.Types.{bare}

@@ -21,9 +21,9 @@ use Rattle.c_programs.specs.Declarators.{declared_type}
 use Rattle.c_programs.specs.Statements.{after_declared, declared_faults, object_faults, objects_faults, declares_faults}
 use Rattle.c_spots.specs.Spots.{in_function, allocations, initial_allocations, initials_allocations, declared_spots, object_spots, objects_spots, declares_spots}
 use Rattle.c_locals.specs.Addresses.{addressed, initial_addressed, initials_addressed, declared_addressed, object_addressed, objects_addressed, declares_addressed, after_name}
-use Rattle.c_core.specs.Core as core
-use Rattle.c_core.specs.Core.{Function, Program}
-use Rattle.c_core.specs.Meaning.{is_pointer}
+use Rattle.core_tree.specs.Core as core
+use Rattle.core_tree.specs.Core.{Function, Program}
+use Rattle.core_tree.specs.Meaning.{is_pointer}
 use Rattle.c_operators.specs.declared.home.Home.{Home}
 use Rattle.c_operators.specs.declared.home.Home.TheVariants as kept_in
 use Rattle.c_operators.specs.Denoted.{position_of, is_pointing, kind_of}
@@ -32,7 +32,7 @@ use Rattle.c_values.specs.Expressions.{kind_of_type, wanted_of}
 use Rattle.c_initials.specs.Initials.{kinds_of_some, cell_stored, cell_cleared, cleared, type_of_part, started, parts_started, zero_word, first_word, first_of_braces, object_begun, begun}
 use Rattle.c_frames.specs.Locals.{local_of, declares_locals}
 use Rattle.c_statements.specs.Statements.{here_after_object, object_elaborated, objects_elaborated, declares_elaborated}
-use Rattle.c_core.specs.Sound.{IsSoundExp, IsSoundStatement, AreSoundStatements}
+use Rattle.core_tree.specs.Sound.{IsSoundExp, IsSoundStatement, AreSoundStatements}
 use Rattle.source_sound.proofs.Environment.{IsFormed, IsFormedTarget, Suits}
 use Rattle.source_sound.proofs.NoFaults.{append_nil, three_nil, fits}
 use Rattle.source_sound.proofs.Premises.{Have, have_parts, AreValuesSound, AreWantedSound, value_by_parts, wanted_by_parts}

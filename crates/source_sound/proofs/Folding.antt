@@ -19,8 +19,8 @@ use Rattle.c_types.specs.Scopes.{Known, Meaning, seen, base_of, starred, type_na
 use Rattle.c_types.specs.Operands.{Standing, no_type, zero_literal, Operand, any_operand, whole, zero_operand, null_operand, pointing, function_operand, no_operand, operand_of, is_typed, is_whole, is_scalar, takes, settled, int_value, result_of, binary_standing, can_choose, chosen}
 use Rattle.c_types.specs.Standing.{Target, no_target, cast_target, made_int, prefix_standing, conditional_standing, is_sized, sizeof_standing, sizeof_type_standing, casts_to, can_cast, cast_standing, constant_standing, named_standing, number_standing, standing}
 use Rattle.rr_base.specs.declared.position.Position.{Position}
-use Rattle.c_core.specs.Core as core
-use Rattle.c_core.specs.Core.{Function, Program}
+use Rattle.core_tree.specs.Core as core
+use Rattle.core_tree.specs.Core.{Function, Program}
 use Rattle.c_operators.specs.Denoted.{Denoted, denoted_value}
 use Rattle.c_values.specs.Expressions.{constant_by}
 use Rattle.source_sound.proofs.Operators.{chosen_number}

@@ -7,14 +7,14 @@ use Rattle.c_types.specs.declared.types.Layer.TheVariants as layer
 use Rattle.c_types.specs.Operands.{Standing, no_type, zero_literal, null_literal, a_value, a_place, Operand, any_operand, whole, zero_operand, null_operand, pointing, function_operand, no_operand, operand_of, layered_operand, fits_functions, are_functions}
 use Rattle.c_types.specs.Types.{layered_is_array}
 use Rattle.rr_base.specs.declared.position.Position.{Position}
-use Rattle.c_core.specs.Core as core
-use Rattle.c_core.specs.Core.{Function, Program}
-use Rattle.c_core.specs.Meaning.{is_pointer}
+use Rattle.core_tree.specs.Core as core
+use Rattle.core_tree.specs.Core.{Function, Program}
+use Rattle.core_tree.specs.Meaning.{is_pointer}
 use Rattle.c_operators.specs.declared.denoted.WordKind.{WordKind}
 use Rattle.c_operators.specs.declared.denoted.WordKind.TheVariants as kind
 use Rattle.c_operators.specs.Denoted.{Denoted, denoted_register, denoted_cells, denoted_zero, denoted_null, denoted_value, Part, operand_in, is_pointing, value_by, function_by, wanted_in}
 use Rattle.c_operators.specs.Operators.{is_some_address}
-use Rattle.c_core.specs.Sound.{IsPointer, IsSoundExp}
+use Rattle.core_tree.specs.Sound.{IsPointer, IsSoundExp}
 use Rattle.source_sound.proofs.Environment.{DenotedFits}
 use Rattle.source_sound.proofs.Apart.{never}
 use Rattle.source_sound.proofs.Standings.{address_layers, Gives, Stands, stands_gives}

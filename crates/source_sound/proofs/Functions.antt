@@ -16,14 +16,14 @@ use Rattle.c_programs.specs.Statements.{parts_faults}
 use Rattle.c_numbers.specs.Numbered.{Numbered}
 use Rattle.c_locals.specs.Addresses.{is_among, numbered_from, parts_addressed}
 use Rattle.c_spots.specs.Spots.{in_function, formals_spots, parts_spots, definition_spots}
-use Rattle.c_core.specs.Core as core
-use Rattle.c_core.specs.Core.{Function, Program, Arrival}
+use Rattle.core_tree.specs.Core as core
+use Rattle.core_tree.specs.Core.{Function, Program, Arrival}
 use Rattle.c_frames.specs.declared.local.Local.{Local}
 use Rattle.c_operators.specs.Context.{Source, Frame, context_in, home_numbered, site_at}
 use Rattle.c_frames.specs.Locals.{parts_locals}
 use Rattle.c_frames.specs.Frames.{formal_of, marked, one_if, kept_count, local_pointers, pointers_of, sites_of, arrivals_of, frame_of}
 use Rattle.c_elaborate.specs.Functions.{definition}
-use Rattle.c_core.specs.Sound.{HasSite, IsSoundArrival, IsSoundStatement, IsSoundFunction}
+use Rattle.core_tree.specs.Sound.{HasSite, IsSoundArrival, IsSoundStatement, IsSoundFunction}
 use Rattle.source_sound.proofs.Among.{AreAmong}
 use Rattle.source_sound.proofs.Environment.{IsFormed, IsKept}
 use Rattle.source_sound.proofs.NoFaults.{append_nil, four_nil, matches}

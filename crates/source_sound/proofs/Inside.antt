@@ -10,18 +10,18 @@ use Rattle.c_types.specs.Operands.{a_place}
 use Rattle.c_types.specs.Standing.{type_struct, is_main}
 use Rattle.c_numbers.specs.Numbered.{Numbered, number_seen}
 use Rattle.rr_base.specs.declared.position.Position.{Position}
-use Rattle.c_core.specs.Core.{Function, Program}
+use Rattle.core_tree.specs.Core.{Function, Program}
 use Rattle.c_operators.specs.declared.home.Home.{Home}
 use Rattle.c_operators.specs.declared.home.Home.TheVariants as kept_in
 use Rattle.c_operators.specs.Context.{Source, Frame, Context, home_numbered, global_named, function_counted}
 use Rattle.c_values.specs.Calls.{gives_pointer}
 use Rattle.c_values.specs.Expressions.{denoted_in, variable_denoted}
-use Rattle.c_core.specs.Sound.{IsFunction, IsAddress}
+use Rattle.core_tree.specs.Sound.{IsFunction, IsAddress}
 use Rattle.std.proofs.lemmas.Option.{same_Some}
 use Rattle.std.proofs.lemmas.Slice.Eq.{bytes_eq-Decides}
 use Rattle.c_types.specs.declared.library.StarredType.{StarredType}
 use Rattle.c_types.specs.Signatures.{type_numbered, signature_numbered}
-use Rattle.c_core.specs.Sound.{IsPointerType}
+use Rattle.core_tree.specs.Sound.{IsPointerType}
 use Rattle.c_operators.specs.Context.{pointer_counted}
 use Rattle.source_sound.proofs.Environment.{IsFormed, IsFormedResult, DenotedFits, AreFitting, wanted_kinds, CallSuits, PointerSuits, Suits}
 use Rattle.source_sound.proofs.Signatures.{kinds_wanted, same_wanted, IsSomeResult, IsKnown}

@@ -7,12 +7,12 @@ use Rattle.c_types.specs.Scopes.{Known, Scope, Meaning, variable, function_of, s
 use Rattle.c_programs.specs.Declarators.{after_params}
 use Rattle.c_programs.specs.Statements.{parts_faults}
 use Rattle.c_sites.specs.Whole.{first_fault}
-use Rattle.c_core.specs.Core.{Function, Program}
+use Rattle.core_tree.specs.Core.{Function, Program}
 use Rattle.c_operators.specs.Context.{Source, function_counted}
 use Rattle.c_values.specs.Calls.{gives_pointer}
 use Rattle.c_elaborate.specs.Functions.{definition}
 use Rattle.c_elaborate.specs.Whole.{core_of_source}
-use Rattle.c_core.specs.Sound.{IsSound, IsFunction, IsSoundFunction}
+use Rattle.core_tree.specs.Sound.{IsSound, IsFunction, IsSoundFunction}
 use Rattle.source_sound.proofs.Environment.{IsFormedResult}
 use Rattle.source_sound.proofs.Bodies.{IsGiven, IsFileName, Begins, DefinitionsAreSound}
 use Rattle.source_sound.proofs.Definitions.{defined_sound}

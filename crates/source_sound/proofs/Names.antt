@@ -21,8 +21,8 @@ use Rattle.c_types.specs.Standing.{Target, no_target, pointee, can_index, elemen
 use Rattle.c_rules.specs.Faults.{name_place, mismatch, lacks_struct_by, is_unknown_struct, specifier_faults, is_some_void, name_can_be_place, can_be_place, sizeof_type_faults}
 use Rattle.c_numbers.specs.Numbered.{number_seen}
 use Rattle.c_locals.specs.Addresses.{maybe_listed, number_of_operand}
-use Rattle.c_core.specs.Core as core
-use Rattle.c_core.specs.Core.{Function, Program}
+use Rattle.core_tree.specs.Core as core
+use Rattle.core_tree.specs.Core.{Function, Program}
 use Rattle.c_operators.specs.declared.home.Home.{Home}
 use Rattle.c_operators.specs.declared.home.Home.TheVariants as kept
 use Rattle.c_operators.specs.Denoted.{Denoted, denoted_register, denoted_cells, denoted_zero, denoted_null, denoted_value, position_of}

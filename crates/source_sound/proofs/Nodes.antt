@@ -5,7 +5,7 @@ use Rattle.c_text.specs.Texts.{Text}
 use Rattle.c_tree.specs.declared.expr.AssignOp.{AssignOp}
 use Rattle.c_tree.specs.declared.expr.PrefixOp.{PrefixOp}
 use Rattle.c_tree.specs.declared.expr.PrefixOp.TheVariants as prefix_op
-use Rattle.abstract_machine.specs.declared.operator.BinaryOp.{BinaryOp as FlowOp}
+use Rattle.word_semantics.specs.declared.operator.BinaryOp.{BinaryOp as FlowOp}
 use Rattle.c_tree.specs.Tree.{Exp, named, number, sizeof_exp}
 use Rattle.rr_base.specs.declared.position.Position.{Position}
 use Rattle.c_types.specs.declared.types.ObjectType.{ObjectType}
@@ -21,16 +21,16 @@ use Rattle.c_types.specs.Standing.{Target, no_target, stepped, prefix_standing, 
 use Rattle.c_types.specs.Found.{where_it_comes, found_at}
 use Rattle.c_rules.specs.Faults.{mismatch, own_place, place_faults, can_be_place, go_faults, steps, standing_type, assigns_to, needs_place, prefix_takes, step_faults, assign_faults, prefix_faults, named_faults}
 use Rattle.c_locals.specs.Addresses.{where_address, number_of_operand}
-use Rattle.c_core.specs.Core as core
-use Rattle.c_core.specs.Core.{Function, Program}
-use Rattle.c_core.specs.Meaning.{is_pointer}
+use Rattle.core_tree.specs.Core as core
+use Rattle.core_tree.specs.Core.{Function, Program}
+use Rattle.core_tree.specs.Meaning.{is_pointer}
 use Rattle.c_operators.specs.declared.home.Home.{Home}
 use Rattle.c_operators.specs.declared.home.Home.TheVariants as kept
 use Rattle.c_operators.specs.Denoted.{Denoted, denoted_zero, denoted_value, Part, part_by, operand_in, position_of}
 use Rattle.c_operators.specs.Context.{Context, home_of, function_word}
 use Rattle.c_operators.specs.Operators.{assigned_in, stepped_in, prefix_in, cast_in, is_some_address}
 use Rattle.c_values.specs.Expressions.{constant_by, folded, variable_denoted, named_denoted, is_pointer_type, denoted}
-use Rattle.c_core.specs.Sound.{IsSoundExp}
+use Rattle.core_tree.specs.Sound.{IsSoundExp}
 use Rattle.source_sound.proofs.Environment.{IsFormed, AreKept, DenotedFits, Suits}
 use Rattle.source_sound.proofs.Apart.{not_nothing, append_nil, comes_not, keeps, never, never'}
 use Rattle.source_sound.proofs.Standings.{Stands, PartGives, stands_gives}

@@ -1,9 +1,9 @@
 -- Operators with two or three operands: what stands for them is there, and of the kind that is known.
 use Rattle.std.proofs.Common.{◌≡◌, ◌⊎◌, inl, inr, ℕ, ◌≤◌, Bool, true, false, not, ◌&&◌, ◌||◌, if◌then◌else◌, Option, refl, sym, ap, ◌∙◌, subst}
 use Rattle.std.proofs.lemmas.Bool.{and_from}
-use Rattle.abstract_machine.specs.declared.operator.BinaryOp.{BinaryOp as FlowOp}
-use Rattle.abstract_machine.specs.declared.operator.BinaryOp.TheVariants as flow
-use Rattle.abstract_machine.specs.Kinds.{is_comparison}
+use Rattle.word_semantics.specs.declared.operator.BinaryOp.{BinaryOp as FlowOp}
+use Rattle.word_semantics.specs.declared.operator.BinaryOp.TheVariants as flow
+use Rattle.word_semantics.specs.Kinds.{is_comparison}
 use Rattle.c_tree.specs.declared.expr.BinaryOp.{BinaryOp}
 use Rattle.c_tree.specs.declared.expr.BinaryOp.TheVariants as op
 use Rattle.c_types.specs.declared.types.ObjectType.{ObjectType}
@@ -13,15 +13,15 @@ use Rattle.c_types.specs.Scopes.{cells_of_type}
 use Rattle.c_types.specs.Operands.{no_type, Operand, any_operand, whole, zero_operand, null_operand, pointing, function_operand, no_operand, is_void, is_typed, is_whole, is_scalar, is_some_pointer, is_movable, points_to_void, are_alike, are_compatible, are_functions, are_whole, can_add, have_distance, can_subtract, takes, int_value, a_value, sum_of, difference_of, result_of, binary_standing, can_choose, chosen_target, chosen}
 use Rattle.c_types.specs.Standing.{can_index, element_place, index_standing, conditional_standing}
 use Rattle.rr_base.specs.declared.position.Position.{Position}
-use Rattle.c_core.specs.Core as core
-use Rattle.c_core.specs.Core.{Function, Program}
-use Rattle.c_core.specs.Meaning.{is_pointer}
+use Rattle.core_tree.specs.Core as core
+use Rattle.core_tree.specs.Core.{Function, Program}
+use Rattle.core_tree.specs.Meaning.{is_pointer}
 use Rattle.c_operators.specs.declared.denoted.WordKind.{WordKind}
 use Rattle.c_operators.specs.declared.denoted.WordKind.TheVariants as kind
 use Rattle.c_operators.specs.Denoted.{denoted_cells, denoted_value, Part, operand_in, is_pointing, kind_of_both, value_in, wanted_in}
 use Rattle.c_operators.specs.Context.{Source, element_of}
 use Rattle.c_operators.specs.Operators.{element_of_either, operated_in, binary_in, conditional_in, index_in}
-use Rattle.c_core.specs.Sound.{IsSoundExp}
+use Rattle.core_tree.specs.Sound.{IsSoundExp}
 use Rattle.source_sound.proofs.Environment.{IsFormed, IsFormedOrVoid}
 use Rattle.source_sound.proofs.Apart.{never, never', both, either_holds, not_true}
 use Rattle.source_sound.proofs.Standings.{formed_pointee, IsFormedOperand, Gives, Stands, PartGives}

@@ -2,7 +2,7 @@
 use Rattle.std.proofs.Common.{◌≡◌, ℕ, ◌≤◌, Bool, true, false, ◌&&◌, if◌then◌else◌, List, [], ◌∷◌, Option, Some, None, is_none, refl, sym, ap, ◌∙◌, subst}
 use Rattle.std.proofs.lemmas.Bool.{and_from}
 use Rattle.c_text.specs.Texts.{Text}
-use Rattle.abstract_machine.specs.declared.operator.BinaryOp.TheVariants as flow
+use Rattle.word_semantics.specs.declared.operator.BinaryOp.TheVariants as flow
 use Rattle.c_tree.specs.declared.name.Name.{Name}
 use Rattle.c_tree.specs.declared.expr.PrefixOp.{PrefixOp}
 use Rattle.c_tree.specs.declared.expr.PrefixOp.TheVariants as prefix_op
@@ -18,13 +18,13 @@ use Rattle.c_types.specs.Operands.{Standing, no_type, zero_literal, null_literal
 use Rattle.c_types.specs.Standing.{pointee, points_to_functions, address, prefix_standing, layered_struct, struct_of, pointed_struct, place_by, member_standing, casts_to, can_cast, cast_standing}
 use Rattle.c_rules.specs.Faults.{can_follow, can_be_pointed_to, prefix_takes, lacks_struct, lacks_member, member_faults, name_place, mismatch}
 use Rattle.c_types.specs.Found.{where_it_comes}
-use Rattle.c_core.specs.Core as core
-use Rattle.c_core.specs.Core.{Function, Program}
-use Rattle.c_core.specs.Meaning.{is_pointer}
+use Rattle.core_tree.specs.Core as core
+use Rattle.core_tree.specs.Core.{Function, Program}
+use Rattle.core_tree.specs.Meaning.{is_pointer}
 use Rattle.c_operators.specs.Denoted.{Denoted, denoted_register, denoted_cells, denoted_zero, denoted_null, denoted_value, Part, part_by, operand_in, is_pointing, value_by, value_in}
 use Rattle.c_operators.specs.Context.{Source}
 use Rattle.c_operators.specs.Operators.{address_in, prefix_in, is_some_address, cast_in, member_in, arrow_in}
-use Rattle.c_core.specs.Sound.{IsSoundExp}
+use Rattle.core_tree.specs.Sound.{IsSoundExp}
 use Rattle.source_sound.proofs.Environment.{IsFormed, IsFormedGiven, IsFormedOrVoid}
 use Rattle.source_sound.proofs.Apart.{append_nil, comes_not, never, not_true, there_is, some_not_none}
 use Rattle.source_sound.proofs.Standings.{formed_or_void, formed_pointee, address_layers, Gives, Stands, PartGives, stands_gives}

@@ -27,10 +27,10 @@ use Rattle.c_rules.specs.Faults.{name_place, mismatch, specifier_faults}
 use Rattle.c_names.specs.Sources.{listed_params}
 use Rattle.c_names.specs.Signatures.{cannot_pass, wanted_inside, pointed_by, pointer_of, cannot_give}
 use Rattle.c_programs.specs.Declarators.{place_by, name_inside_faults, again_inside, inside_faults, with_inside, all_inside_faults, pointer_faults, declarator_faults, param_faults, params_faults, after_param, taken_faults, type_by, arrays_of, complete_by, declared_type, pointer_type, passed_by, param_type}
-use Rattle.c_core.specs.Core.{Program}
+use Rattle.core_tree.specs.Core.{Program}
 use Rattle.c_operators.specs.Context.{pointer_counted}
 use Rattle.c_values.specs.Calls.{gives_pointer}
-use Rattle.c_core.specs.Sound.{IsPointerType}
+use Rattle.core_tree.specs.Sound.{IsPointerType}
 use Rattle.source_sound.proofs.FileLists.{append_nil, nil3, where_nil}
 use Rattle.source_sound.proofs.DeclaredTypes.{base_known, IsNumberedDeclared}
 use Rattle.source_sound.proofs.Signatures.{kinds_wanted, AreFits, IsSomeResult, IsKnown, result_known, one_wanted, IsNumbered, AreNumbered}

@@ -10,10 +10,10 @@ use Rattle.c_types.specs.declared.names.PointerType.{PointerType}
 use Rattle.c_types.specs.Scopes.{Known, Scope, Meaning, variable, function_of, seen, seen_in, or_else, innermost, has_name}
 use Rattle.c_types.specs.Signatures.{same_signature, signatures_of, pointer_numbered}
 use Rattle.c_types.specs.Standing.{is_main}
-use Rattle.c_core.specs.Core.{Function, Pointer, Program}
+use Rattle.core_tree.specs.Core.{Function, Pointer, Program}
 use Rattle.c_values.specs.Calls.{gives_pointer}
 use Rattle.c_elaborate.specs.Pointers.{pointed_by, target_type, target_types, is_numbered, targets_from, is_pointer_kind, pointer_type, pointer_types, source_pointers}
-use Rattle.c_core.specs.Sound.{IsFunction}
+use Rattle.core_tree.specs.Sound.{IsFunction}
 use Rattle.source_sound.proofs.Signatures.{kinds_wanted}
 use Rattle.source_sound.proofs.Pointers.{same_known, kinds_told}
 use Rattle.source_sound.proofs.Grown.{found}

@@ -8,12 +8,12 @@ use Rattle.c_types.specs.Standing.{Target, no_target, standing}
 use Rattle.c_rules.specs.Faults.{faults, expression_faults}
 use Rattle.c_spots.specs.Spots.{Spot, allocations}
 use Rattle.c_locals.specs.Addresses.{addressed}
-use Rattle.c_core.specs.Core.{Function, Program}
-use Rattle.c_core.specs.Meaning.{is_pointer}
+use Rattle.core_tree.specs.Core.{Function, Program}
+use Rattle.core_tree.specs.Meaning.{is_pointer}
 use Rattle.c_operators.specs.Denoted.{is_pointing, kind_of}
 use Rattle.c_operators.specs.Context.{Frame, Context, home_numbered, site_at}
 use Rattle.c_values.specs.Expressions.{value_of, wanted_of}
-use Rattle.c_core.specs.Sound.{HasSite, IsSoundExp}
+use Rattle.core_tree.specs.Sound.{HasSite, IsSoundExp}
 use Rattle.source_sound.proofs.Environment.{IsFormedTarget, IsKept, AreKept, places_of, Suits, HaveSites}
 
 -- each of these has a site

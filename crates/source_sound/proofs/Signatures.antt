@@ -23,7 +23,7 @@ use Rattle.c_names.specs.Signatures.{is_struct_specifier, cannot_pass, wanted_fo
 use Rattle.c_programs.specs.Programs.{agree_on_result, agree_on_params, agree}
 use Rattle.c_types.specs.Signatures.{same_starred}
 use Rattle.c_values.specs.Calls.{is_pointer_wanted, gives_pointer}
-use Rattle.c_core.specs.Core.{Function, Program}
+use Rattle.core_tree.specs.Core.{Function, Program}
 use Rattle.source_sound.proofs.Environment.{IsFormedValue, wanted_kinds, AreFitting}
 use Rattle.source_sound.proofs.FileLists.{append_nil, nil4, where_nil}
 use Rattle.source_sound.proofs.DeclaredTypes.{base_known, IsFileBase, only_pointers, pointers_formed}

@@ -13,12 +13,12 @@ use Rattle.c_programs.specs.Statements.{after_declared, after_declares, after_st
 use Rattle.c_locals.specs.Addresses.{is_among, count_of_declares, count_of_start, count_of_locals}
 use Rattle.c_locals.specs.Kept.{is_kept}
 use Rattle.c_spots.specs.Spots.{Spot, spot_named, where_kept, in_function, holder_in, allocations, maybe_allocations, lengths_allocations, initial_allocations, declared_spots, object_spots, objects_spots, declares_spots, start_spots, for_spots, statement_spots, parts_spots, formal_spot, formals_spots}
-use Rattle.c_core.specs.Core.{Program}
+use Rattle.core_tree.specs.Core.{Program}
 use Rattle.c_frames.specs.declared.local.Local.{Local}
 use Rattle.c_operators.specs.Context.{site_at}
 use Rattle.c_frames.specs.Locals.{local_declared, local_of, declares_locals, start_locals, statement_locals, parts_locals}
 use Rattle.c_frames.specs.Frames.{formal_of, marked, sites_of}
-use Rattle.c_core.specs.Sound.{HasSite}
+use Rattle.core_tree.specs.Sound.{HasSite}
 use Rattle.source_sound.proofs.Premises.{HaveSpots, spots_parts}
 use Rattle.source_sound.proofs.Locals.{declares_count, start_count, locals_count}
 

@@ -9,13 +9,13 @@ use Rattle.c_types.specs.Operands.{Standing, no_type, zero_literal, null_literal
 use Rattle.c_types.specs.Types.{layered_is_array}
 use Rattle.c_types.specs.Standing.{type_struct}
 use Rattle.rr_base.specs.declared.position.Position.{Position}
-use Rattle.c_core.specs.Core as core
-use Rattle.c_core.specs.Core.{Function, Program}
-use Rattle.c_core.specs.Meaning.{is_pointer}
+use Rattle.core_tree.specs.Core as core
+use Rattle.core_tree.specs.Core.{Function, Program}
+use Rattle.core_tree.specs.Meaning.{is_pointer}
 use Rattle.c_operators.specs.declared.denoted.WordKind.TheVariants as kind
 use Rattle.c_operators.specs.Denoted.{Denoted, denoted_register, denoted_cells, denoted_zero, denoted_null, denoted_value, Part, operand_in, is_pointing, value_by, pointer_by, value_in, wanted_in}
 use Rattle.c_operators.specs.Operators.{is_some_address}
-use Rattle.c_core.specs.Sound.{IsPointer, HasRegister, IsSoundExp}
+use Rattle.core_tree.specs.Sound.{IsPointer, HasRegister, IsSoundExp}
 use Rattle.source_sound.proofs.Environment.{IsFormedBase, IsFormedPointee, IsFormedLayered, IsFormed, IsFormedOrVoid, IsFormedGiven, IsFormedValue, DenotedFits}
 use Rattle.source_sound.proofs.Apart.{never'}
 

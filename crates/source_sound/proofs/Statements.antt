@@ -16,8 +16,8 @@ use Rattle.c_programs.specs.Statements.{after_declares, declares_faults, compute
 use Rattle.c_spots.specs.Spots.{in_function, allocations, maybe_allocations, declares_spots, start_spots, for_spots, statement_spots, parts_spots}
 use Rattle.c_numbers.specs.Numbered.{Numbered, inside}
 use Rattle.c_locals.specs.Addresses.{addressed, maybe_addressed, start_addressed, for_addressed, declares_addressed, statement_addressed, parts_addressed, after_names, after_name, after_declaration, after_for_start, past_statement, count_of_declares, count_of_start, count_of_locals}
-use Rattle.c_core.specs.Core.{Function, Program}
-use Rattle.c_core.specs.Meaning.{is_pointer}
+use Rattle.core_tree.specs.Core.{Function, Program}
+use Rattle.core_tree.specs.Meaning.{is_pointer}
 use Rattle.c_frames.specs.declared.local.Local.{Local}
 use Rattle.c_operators.specs.Denoted.{is_pointing, kind_of}
 use Rattle.c_operators.specs.Context.{Context}
@@ -25,7 +25,7 @@ use Rattle.c_values.specs.Calls.{gives_pointer}
 use Rattle.c_values.specs.Expressions.{value_of, wanted_of}
 use Rattle.c_frames.specs.Locals.{declares_locals, start_locals, statement_locals, parts_locals}
 use Rattle.c_statements.specs.Statements.{context_inside, here_after_declares, here_after_start, context_after, declares_elaborated, computed, maybe_value, kind_given, given, start_elaborated, elaborated, all_elaborated}
-use Rattle.c_core.specs.Sound.{IsSoundExp, IsSoundMaybe, IsSoundResult, IsSoundStatement}
+use Rattle.core_tree.specs.Sound.{IsSoundExp, IsSoundMaybe, IsSoundResult, IsSoundStatement}
 use Rattle.source_sound.proofs.NoFaults.{append_nil, three_nil, four_nil, fits}
 use Rattle.source_sound.proofs.Premises.{Have, have_parts, AreValuesSound, AreWantedSound, value_by_parts, wanted_by_parts}
 use Rattle.source_sound.proofs.Listed.{lists_of, StartListed, StatementListed, PartsListed}

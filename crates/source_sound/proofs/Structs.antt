@@ -4,7 +4,7 @@ use native.Mathlib.Nat.{mul-mod_left}
 use Rattle.std.proofs.lemmas.Bool.{and_from}
 use Rattle.std.proofs.lemmas.Bool.Decides.{nat_tests}
 use Rattle.rr_base.specs.declared.layout.CellKind.{CellKind}
-use Rattle.abstract_machine.specs.Layouts.{layout_fits}
+use Rattle.word_semantics.specs.Layouts.{layout_fits}
 use Rattle.c_types.specs.declared.types.BaseType.{BaseType}
 use Rattle.c_types.specs.declared.types.BaseType.TheVariants as base
 use Rattle.c_types.specs.declared.types.Layer.{Layer}

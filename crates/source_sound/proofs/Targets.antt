@@ -16,10 +16,10 @@ use Rattle.c_types.specs.Operands.{Standing, no_type, zero_literal, null_literal
 use Rattle.c_types.specs.Standing.{Target, no_target, target_of, layered_target, type_target, assigned_target, cast_target}
 use Rattle.c_programs.specs.Initials.{value_target}
 use Rattle.c_spots.specs.Spots.{Spot, is_malloc_call, is_malloc, where_malloc}
-use Rattle.c_core.specs.Core.{Function, Program}
+use Rattle.core_tree.specs.Core.{Function, Program}
 use Rattle.c_operators.specs.Denoted.{Denoted, denoted_register, denoted_cells, denoted_zero, denoted_null, denoted_value}
 use Rattle.c_operators.specs.Context.{Context, site_at}
-use Rattle.c_core.specs.Sound.{HasSite}
+use Rattle.core_tree.specs.Sound.{HasSite}
 use Rattle.source_sound.proofs.Environment.{IsFormed, IsFormedLayered, IsFormedOrVoid, IsFormedTarget, AreKept, places_of, HaveSites}
 use Rattle.source_sound.proofs.Apart.{never}
 use Rattle.source_sound.proofs.Standings.{formed_or_void, formed_pointee, Stands}

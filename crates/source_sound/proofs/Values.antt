@@ -9,8 +9,8 @@ use Rattle.c_types.specs.Standing.{Target, no_target, standing}
 use Rattle.c_rules.specs.Faults.{faults}
 use Rattle.c_locals.specs.Addresses.{addressed}
 use Rattle.c_spots.specs.Spots.{allocations}
-use Rattle.c_core.specs.Core.{Function, Program}
-use Rattle.c_core.specs.Meaning.{is_pointer}
+use Rattle.core_tree.specs.Core.{Function, Program}
+use Rattle.core_tree.specs.Meaning.{is_pointer}
 use Rattle.c_operators.specs.declared.denoted.WordKind.{WordKind}
 use Rattle.c_operators.specs.declared.denoted.WordKind.TheVariants as kind
 use Rattle.c_operators.specs.Denoted.{Denoted, denoted_register, denoted_cells, denoted_zero, denoted_null, denoted_value, is_pointing, kind_of}
@@ -18,7 +18,7 @@ use Rattle.c_operators.specs.Context.{Context}
 use Rattle.c_operators.specs.Operators.{is_some_address}
 use Rattle.c_values.specs.Calls.{is_pointer_wanted, kind_wanted}
 use Rattle.c_values.specs.Expressions.{denoted, part, value_of, wanted_of}
-use Rattle.c_core.specs.Sound.{IsPointer, IsWhole, IsSoundExp}
+use Rattle.core_tree.specs.Sound.{IsPointer, IsWhole, IsSoundExp}
 use Rattle.source_sound.proofs.Environment.{IsFormed, IsFormedValue, IsFormedTarget, AreKept, places_of, DenotedFits, HaveSites, Suits}
 use Rattle.source_sound.proofs.Standings.{Stands, PartGives, stands_denoted, stands_gives}
 use Rattle.source_sound.proofs.FunctionWords.{any_sound, PartGivesAll, stands_all}

@@ -5,9 +5,9 @@ use Rattle.std.proofs.lemmas.List.{length-map}
 use Rattle.rr_base.specs.Words.{pack}
 use Rattle.rr_base.specs.declared.layout.CellKind.{CellKind}
 use Rattle.rr_base.specs.declared.layout.Site.{Site}
-use Rattle.abstract_machine.specs.Pointers.{base_at}
-use Rattle.abstract_machine.specs.Cells.{size_of}
-use Rattle.abstract_machine.specs.Layouts.{sites_fit}
+use Rattle.word_semantics.specs.Pointers.{base_at}
+use Rattle.word_semantics.specs.Cells.{size_of}
+use Rattle.word_semantics.specs.Layouts.{sites_fit}
 use Rattle.c_text.specs.Texts.{Text, entry_of}
 use Rattle.c_tree.specs.Tree.{Outer}
 use Rattle.c_types.specs.Scopes.{Known}
@@ -17,12 +17,12 @@ use Rattle.c_locals.specs.Taken.{program_taken}
 use Rattle.c_spots.specs.Spots.{Spot, known_after, program_spots}
 use Rattle.c_sites.specs.Sites.{site_of, kinds_of_structs, program_sites}
 use Rattle.c_sites.specs.Whole.{first_fault}
-use Rattle.c_core.specs.Core.{Program}
+use Rattle.core_tree.specs.Core.{Program}
 use Rattle.c_operators.specs.Context.{Source, global_named}
 use Rattle.c_globals.specs.Globals.{global_kinds, global_bases}
 use Rattle.c_elaborate.specs.Pointers.{source_pointers}
 use Rattle.c_elaborate.specs.Whole.{outers_functions, outers_words, source_of, core_of_source}
-use Rattle.c_core.specs.Sound.{IsAddress, IsSoundFunction, LiesAt, AreAtHome, IsSound}
+use Rattle.core_tree.specs.Sound.{IsAddress, IsSoundFunction, LiesAt, AreAtHome, IsSound}
 use Rattle.source_sound.proofs.Faultless.{IsFaultless, faultless}
 use Rattle.source_sound.proofs.Sited.{AreSited, all_sited, counted}
 use Rattle.source_sound.proofs.FileStructs.{AreStructs}

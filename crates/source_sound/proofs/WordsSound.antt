@@ -2,7 +2,7 @@
 use Rattle.std.proofs.Common.{ℕ, Option}
 use Rattle.c_types.specs.Operands.{operand_of, type_operand}
 use Rattle.c_types.specs.Standing.{no_target, standing}
-use Rattle.c_core.specs.Core.{Function, Program}
+use Rattle.core_tree.specs.Core.{Function, Program}
 use Rattle.c_operators.specs.Denoted.{kind_of, wanted_in}
 use Rattle.c_values.specs.Expressions.{denoted, part}
 use Rattle.source_sound.proofs.Standings.{stands_gives}

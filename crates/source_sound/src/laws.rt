@@ -3,7 +3,7 @@ ghost use Rattle.std.specs.Prelude.{◌≡◌, ◌+◌, ◌≤◌, ◌^◌, List
 ghost use Rattle.c_tree.specs.Tree.{Outer};
 ghost use Rattle.c_sites.specs.Whole.{first_fault};
 ghost use Rattle.c_elaborate.specs.Whole.{core_of_source};
-ghost use Rattle.c_core.specs.Sound.{IsSound};
+ghost use Rattle.core_tree.specs.Sound.{IsSound};
 ghost use Rattle.source_sound.specs.Members.{StructsHaveMembers};
 
 /// What a source without a fault names is there, and is used at its kind, wherever the source stands in it. A source

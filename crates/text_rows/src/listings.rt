@@ -4,7 +4,7 @@ use listing::{races_text, weak_text};
 use rr_base::{CellKind, Layout, List, Place, Position, Site};
 use std::alloc::{AllocError, Global};
 use std::test::Fail;
-use weak_facts::{Grain, Grained};
+use weak_lock_facts::{Grain, Grained};
 
 const START: Position = Position { line: 1, column: 1 };
 

@@ -5,15 +5,15 @@ use Rattle.sync_objects.specs.Advance.{advanced, Advances}
 use Rattle.sync_objects.specs.Names.{name_of}
 use Rattle.sync_objects.specs.declared.object.ObjId.{ObjId}
 use Rattle.sync_objects.specs.declared.operation.Op.{Op}
-use Rattle.abstract_machine.specs.declared.event.Action.TheVariants as action
+use Rattle.word_semantics.specs.declared.event.Action.TheVariants as action
 use Rattle.flow_code.specs.declared.code.Code.{Code}
 use Rattle.flow_code.specs.Next.{action_at, stepped}
 use Rattle.flow_code.specs.Settle.{settled}
 use Rattle.core_run.specs.Machine.{Told, entry_of, action_effect, change_of}
-use Rattle.thread_flow.specs.Pieces.{piece_next}
+use Rattle.thread_interpreter.specs.Pieces.{piece_next}
 use Rattle.core_run.specs.Words.{has_object}
 use Rattle.core_run.proofs.Lawful.{effect_go}
-use Rattle.runs.specs.Steps.{Change, Operates, Refused}
+use Rattle.run_theory.specs.Steps.{Change, Operates, Refused}
 use Rattle.thread_step.specs.Steps.{IsMachinesStep}
 
 module _ (code : Code) (s : SetupView) (t : ℕ) (told : Told) (o : Op) (obj : ObjId) where

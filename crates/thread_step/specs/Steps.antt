@@ -9,18 +9,18 @@ use Rattle.sync_objects.specs.declared.operation.Op.TheVariants as op
 use Rattle.flow_code.specs.declared.code.Code.{Code}
 use Rattle.flow_code.specs.Threads.{Thread}
 use Rattle.flow_code.specs.Next.{stepped, action_at, act_at}
-use Rattle.abstract_machine.specs.declared.event.Action.{Action}
-use Rattle.abstract_machine.specs.declared.event.Action.TheVariants as action
-use Rattle.abstract_machine.specs.Values.{word}
-use Rattle.thread_flow.specs.declared.access.Access.{Access}
-use Rattle.thread_flow.specs.declared.access.Formula.{Formula}
+use Rattle.word_semantics.specs.declared.event.Action.{Action}
+use Rattle.word_semantics.specs.declared.event.Action.TheVariants as action
+use Rattle.word_semantics.specs.Values.{word}
+use Rattle.thread_interpreter.specs.declared.access.Access.{Access}
+use Rattle.thread_interpreter.specs.declared.access.Formula.{Formula}
 use Rattle.core_run.specs.Shown.{with_read}
-use Rattle.thread_flow.specs.Flows.{Running, is_ready}
+use Rattle.thread_interpreter.specs.Flows.{Running, is_ready}
 use Rattle.core_run.specs.Machine.{Told, access_of, entry_of, marked, operated, effect_of}
-use Rattle.runs.specs.Labels.{Go}
-use Rattle.runs.specs.Steps.{Change, Becomes, Operates}
+use Rattle.run_theory.specs.Labels.{Go}
+use Rattle.run_theory.specs.Steps.{Change, Becomes, Operates}
 use Rattle.sync_objects.specs.Words.{number_of}
-use Rattle.thread_flow.specs.Pieces.{piece_next, piece_at}
+use Rattle.thread_interpreter.specs.Pieces.{piece_next, piece_at}
 
 -- the thread, its entries and its printed pieces, in order; the formula of the accesses that are kept, and these; whether there is
 -- room for one more of each; and the step for which there is room, with the bytes that are ready for a print

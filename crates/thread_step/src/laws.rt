@@ -4,7 +4,7 @@ ghost use Rattle.sync_objects.specs.Setup.{SetupView};
 ghost use Rattle.sync_objects.specs.Advance.{advanced, Advances};
 ghost use Rattle.sync_objects.specs.declared.object.ObjId.{ObjId};
 ghost use Rattle.sync_objects.specs.declared.operation.Op.{Op};
-ghost use Rattle.abstract_machine.specs.declared.event.Action.TheVariants as action;
+ghost use Rattle.word_semantics.specs.declared.event.Action.TheVariants as action;
 ghost use Rattle.flow_code.specs.declared.code.Code.{Code};
 ghost use Rattle.flow_code.specs.Next.{action_at};
 ghost use Rattle.flow_code.specs.Settle.{settled};

@@ -4,12 +4,12 @@ ghost use Rattle.std.specs.Vec.{vec_len, vec_capacity};
 ghost use Rattle.sync_objects.specs.Names.{name_of};
 ghost use Rattle.flow_code.specs.Next.{gave_up, stopped, slot_closed, has_ended, has_begun, holds as holds_stripe};
 ghost use Rattle.flow_code.specs.Settle.{IsRunnable, settled};
-ghost use Rattle.abstract_machine.specs.Limits.{most_entries, most_revokes};
-ghost use Rattle.thread_flow.specs.Endings.{ending_of, trap_of};
-ghost use Rattle.thread_flow.specs.Flows.{is_ready};
+ghost use Rattle.word_semantics.specs.Limits.{most_entries, most_revokes};
+ghost use Rattle.thread_interpreter.specs.Endings.{ending_of, trap_of};
+ghost use Rattle.thread_interpreter.specs.Flows.{is_ready};
 ghost use Rattle.core_run.specs.Machine.{access_of, entry_of, operated, marked};
-ghost use Rattle.thread_flow.specs.Starts.{start_thread};
-ghost use Rattle.thread_flow.specs.Pieces.{piece_at};
+ghost use Rattle.thread_interpreter.specs.Starts.{start_thread};
+ghost use Rattle.thread_interpreter.specs.Pieces.{piece_at};
 ghost use Rattle.core_run.specs.Shown.{with_read};
 ghost use Rattle.flow_code.specs.Next.{act_at};
 ghost use Rattle.sync_objects.specs.declared.operation.OpName.TheVariants as name;
@@ -23,7 +23,7 @@ use std::alloc::{AllocError, Global};
 use std::marker::Model;
 use std::mem;
 use sync_objects::{ObjId, Op, OpName};
-use thread_flow::{Access, Ending, Flow, Formula};
+use thread_interpreter::{Access, Ending, Flow, Formula};
 use watch_calls::AccessTest;
 
 /// The most accesses that are kept of a thread.

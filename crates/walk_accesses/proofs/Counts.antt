@@ -11,9 +11,9 @@ use Rattle.flow_code.specs.declared.code.Code.{Code}
 use Rattle.flow_code.specs.Settle.{IsRunnable, settled}
 use Rattle.flow_code.specs.Threads.{Thread}
 use Rattle.flow_code.proofs.Counts.{settled_count}
-use Rattle.thread_flow.specs.declared.access.Access.{Access}
-use Rattle.thread_flow.specs.declared.access.Formula.{Formula}
-use Rattle.thread_flow.specs.Flows.{Running}
+use Rattle.thread_interpreter.specs.declared.access.Access.{Access}
+use Rattle.thread_interpreter.specs.declared.access.Formula.{Formula}
+use Rattle.thread_interpreter.specs.Flows.{Running}
 use Rattle.core_run.specs.Machine.{Told, machine, start_state}
 use Rattle.core_run.specs.Shown.{running_thread, told_thread, RunAll, IsShown, PartStep, AreStarted}
 use Rattle.core_run.specs.Walks.{walk_of}
@@ -21,9 +21,9 @@ use Rattle.core_run.specs.Words.{start_words}
 use Rattle.core_run.proofs.ThreadRanges.{start_thread_is}
 use Rattle.core_run.proofs.Walked.{run_all_here}
 use Rattle.core_run.proofs.WalkLoop.{Walked, walked_start}
-use Rattle.runs.specs.Labels.{Go}
-use Rattle.runs.specs.Steps.{State, stepped, added}
-use Rattle.runs.specs.Walk.{alone, if_nothing, part}
+use Rattle.run_theory.specs.Labels.{Go}
+use Rattle.run_theory.specs.Steps.{State, stepped, added}
+use Rattle.run_theory.specs.Walk.{alone, if_nothing, part}
 use Rattle.walk_accesses.specs.Accesses.{HasWalk, AccessIs}
 use Rattle.walk_accesses.specs.Steps.{FindsAt, Looks, LooksAfter, next_access}
 use Rattle.walk_accesses.proofs.Lists.{none, only_one, here}

@@ -10,18 +10,18 @@ use Rattle.sync_objects.specs.Setup.{SetupView, IsWithinLimits}
 use Rattle.sync_objects.specs.declared.entry.Entry.{Entry}
 use Rattle.flow_code.specs.declared.code.Code.{Code}
 use Rattle.flow_code.specs.Settle.{IsRunnable}
-use Rattle.thread_flow.specs.declared.access.Access.{Access}
-use Rattle.thread_flow.specs.declared.access.Formula.{Formula}
-use Rattle.thread_flow.specs.Flows.{Running}
-use Rattle.thread_flow.specs.Formulas.{meets}
+use Rattle.thread_interpreter.specs.declared.access.Access.{Access}
+use Rattle.thread_interpreter.specs.declared.access.Formula.{Formula}
+use Rattle.thread_interpreter.specs.Flows.{Running}
+use Rattle.thread_interpreter.specs.Formulas.{meets}
 use Rattle.core_run.specs.Machine.{Told, machine}
 use Rattle.core_run.specs.Shown.{RunAll, PartStep, AreStarted}
 use Rattle.core_run.specs.Walks.{most_reads, kept_reads}
 use Rattle.core_run.specs.Words.{start_words}
 use Rattle.core_run.proofs.ThreadRanges.{start_thread_is}
 use Rattle.core_run.proofs.WalkLoop.{Walked, walked_start}
-use Rattle.runs.specs.Steps.{State}
-use Rattle.runs.specs.Walk.{part}
+use Rattle.run_theory.specs.Steps.{State}
+use Rattle.run_theory.specs.Walk.{part}
 use Rattle.walk_accesses.specs.Accesses.{Placed, placed, accesses_of, accesses_between, placed_on, placed_from, accesses_in, seen_at, first_seen}
 use Rattle.walk_accesses.specs.Kept.{first_of}
 use Rattle.walk_accesses.specs.declared.seen.Seen.TheVariants as seen

@@ -9,17 +9,17 @@ use Rattle.sync_objects.specs.declared.entry.Entry.{Entry}
 use Rattle.sync_objects.specs.declared.entry.Noted.{Noted}
 use Rattle.flow_code.specs.declared.code.Code.{Code}
 use Rattle.flow_code.specs.Settle.{IsRunnable}
-use Rattle.thread_flow.specs.declared.access.Access.{Access}
+use Rattle.thread_interpreter.specs.declared.access.Access.{Access}
 use Rattle.core_run.specs.Machine.{Told, effect_of, machine}
 use Rattle.core_run.proofs.EntryParts.{part_outside}
 use Rattle.core_run.proofs.Lawful.{lawful}
-use Rattle.runs.specs.Labels.{Label, Go, label_thread, label_of}
-use Rattle.runs.specs.Same.{same_entry}
-use Rattle.runs.specs.Steps.{State, stepped, added, count_or_zero}
-use Rattle.runs.specs.Walk.{if_nothing, if_only, alone, made, part, walk}
-use Rattle.runs.proofs.Apart.{thread_of_label}
-use Rattle.runs.proofs.Counts.{counted}
-use Rattle.runs.proofs.Swap.{steps_of, adds_of}
+use Rattle.run_theory.specs.Labels.{Label, Go, label_thread, label_of}
+use Rattle.run_theory.specs.Same.{same_entry}
+use Rattle.run_theory.specs.Steps.{State, stepped, added, count_or_zero}
+use Rattle.run_theory.specs.Walk.{if_nothing, if_only, alone, made, part, walk}
+use Rattle.run_theory.proofs.Apart.{thread_of_label}
+use Rattle.run_theory.proofs.Counts.{counted}
+use Rattle.run_theory.proofs.Swap.{steps_of, adds_of}
 use Rattle.walk_accesses.proofs.Gains.{Gained, gained_none, gained_both, effect_adds, outcome_gains, outcome_silent}
 
 -- the thread has come to a state in which it has gained accesses

@@ -6,21 +6,21 @@ use Rattle.std.proofs.lemmas.Option.{same_Some}
 use Rattle.rr_base.proofs.Lists.{slice_get-set_same}
 use Rattle.sync_objects.specs.Setup.{SetupView}
 use Rattle.sync_objects.specs.declared.entry.Entry.{Entry}
-use Rattle.abstract_machine.specs.Values.{number}
-use Rattle.abstract_machine.specs.declared.event.Action.{Action}
-use Rattle.abstract_machine.specs.declared.event.Action.TheVariants as action
+use Rattle.word_semantics.specs.Values.{number}
+use Rattle.word_semantics.specs.declared.event.Action.{Action}
+use Rattle.word_semantics.specs.declared.event.Action.TheVariants as action
 use Rattle.flow_code.specs.declared.code.Code.{Code}
 use Rattle.flow_code.specs.Threads.{Thread}
 use Rattle.flow_code.specs.Next.{stepped as thread_stepped, action_at}
 use Rattle.flow_code.specs.Settle.{settled}
-use Rattle.thread_flow.specs.declared.access.Access.{Access}
+use Rattle.thread_interpreter.specs.declared.access.Access.{Access}
 use Rattle.core_run.specs.Words.{cells_of, has_object}
 use Rattle.core_run.specs.Machine.{Told, access_of, accessed, action_effect, effect_of, machine}
 use Rattle.core_run.proofs.Lawful.{effect_go}
-use Rattle.runs.specs.Labels.{Go}
-use Rattle.runs.specs.Steps.{Change, Becomes, Leaves, Refused, Loads, Stores, Operates, State, outcome, effect_entry, stepped, added}
-use Rattle.runs.specs.Walk.{alone}
-use Rattle.runs.proofs.Swap.{load_inv, change_inv, steps_of, adds_of}
+use Rattle.run_theory.specs.Labels.{Go}
+use Rattle.run_theory.specs.Steps.{Change, Becomes, Leaves, Refused, Loads, Stores, Operates, State, outcome, effect_entry, stepped, added}
+use Rattle.run_theory.specs.Walk.{alone}
+use Rattle.run_theory.proofs.Swap.{load_inv, change_inv, steps_of, adds_of}
 use Rattle.walk_accesses.specs.Steps.{GoesTo, IsIn, LooksAfter, Steps, access_by, answer_of, next_access, words_by}
 use Rattle.walk_accesses.proofs.Lists.{none, only_one}
 use Rattle.walk_accesses.proofs.Grown.{step_alone}

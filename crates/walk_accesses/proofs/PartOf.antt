@@ -9,10 +9,10 @@ use Rattle.sync_objects.specs.Setup.{SetupView, IsWithinLimits}
 use Rattle.sync_objects.specs.declared.entry.Entry.{Entry}
 use Rattle.flow_code.specs.declared.code.Code.{Code}
 use Rattle.flow_code.specs.Settle.{IsRunnable}
-use Rattle.thread_flow.specs.declared.access.Access.{Access}
+use Rattle.thread_interpreter.specs.declared.access.Access.{Access}
 use Rattle.core_run.specs.Machine.{Told, machine, start_state}
-use Rattle.runs.specs.Steps.{State}
-use Rattle.runs.specs.Walk.{part}
+use Rattle.run_theory.specs.Steps.{State}
+use Rattle.run_theory.specs.Walk.{part}
 use Rattle.walk_accesses.specs.Accesses.{Placed, placed, placed_on, placed_from, accesses_of, accesses_between, accesses_in}
 use Rattle.walk_accesses.specs.Parts.{IsInPart}
 use Rattle.walk_accesses.proofs.Lists.{none, there, first_or_later}

@@ -1,7 +1,7 @@
 -- Rows of the definitions, by hand.
 use Rattle.std.specs.Prelude.{◌≡◌, ℕ, true, false, pos, List, [], ◌∷◌, ◌++◌, Some, None, refl}
-use Rattle.thread_flow.specs.declared.access.Access.{Access}
-use Rattle.thread_flow.specs.declared.access.Formula.{Formula}
+use Rattle.thread_interpreter.specs.declared.access.Access.{Access}
+use Rattle.thread_interpreter.specs.declared.access.Formula.{Formula}
 use Rattle.core_run.specs.declared.outcome.Walk.TheVariants as walk
 use Rattle.walk_accesses.specs.Accesses.{Placed, placed, first_seen, seen_of}
 use Rattle.walk_accesses.specs.declared.seen.Seen.TheVariants as seen

@@ -6,14 +6,14 @@ use Rattle.std.proofs.lemmas.Option.{same_Some}
 use Rattle.sync_objects.specs.Setup.{SetupView}
 use Rattle.sync_objects.specs.declared.entry.Entry.{Entry}
 use Rattle.flow_code.specs.declared.code.Code.{Code}
-use Rattle.thread_flow.specs.declared.access.Access.{Access}
-use Rattle.thread_flow.specs.declared.access.Formula.{Formula}
-use Rattle.thread_flow.specs.Flows.{Running}
+use Rattle.thread_interpreter.specs.declared.access.Access.{Access}
+use Rattle.thread_interpreter.specs.declared.access.Formula.{Formula}
+use Rattle.thread_interpreter.specs.Flows.{Running}
 use Rattle.core_run.specs.Machine.{machine, start_state}
 use Rattle.core_run.specs.Shown.{RunAll, PartStep}
 use Rattle.core_run.specs.Walks.{walk_of}
 use Rattle.core_run.proofs.WalkLoop.{Walked, walked_more}
-use Rattle.runs.proofs.Solo.{walk-append}
+use Rattle.run_theory.proofs.Solo.{walk-append}
 
 module _ (code : Code) (s : SetupView) (es : List Entry) (f : Formula) (at : ℕ) where
   module _ (rest : List Entry) (flows : List Running) (words : List ℕ) (reads : List (List Access)) (out : List ℕ) (w : Walked code s es f at rest flows words reads out) where

@@ -4,15 +4,15 @@ use Rattle.std.specs.List.{find}
 use Rattle.sync_objects.specs.Setup.{SetupView}
 use Rattle.sync_objects.specs.declared.entry.Entry.{Entry}
 use Rattle.flow_code.specs.declared.code.Code.{Code}
-use Rattle.thread_flow.specs.declared.access.Access.{Access}
-use Rattle.thread_flow.specs.declared.access.Formula.{Formula}
-use Rattle.thread_flow.specs.Formulas.{meets}
+use Rattle.thread_interpreter.specs.declared.access.Access.{Access}
+use Rattle.thread_interpreter.specs.declared.access.Formula.{Formula}
+use Rattle.thread_interpreter.specs.Formulas.{meets}
 use Rattle.core_run.specs.Machine.{Told, machine, start_state}
 use Rattle.core_run.specs.Walks.{walk_of, WalkIs}
 use Rattle.core_run.specs.declared.outcome.Walk.{Walk}
 use Rattle.core_run.specs.declared.outcome.Walk.TheVariants as walk
-use Rattle.runs.specs.Steps.{State}
-use Rattle.runs.specs.Walk.{part}
+use Rattle.run_theory.specs.Steps.{State}
+use Rattle.run_theory.specs.Walk.{part}
 use Rattle.walk_accesses.specs.declared.seen.Seen.{Seen}
 use Rattle.walk_accesses.specs.declared.seen.Seen.TheVariants as seen
 use Rattle.walk_accesses.specs.declared.seen.Watched.{Watched}

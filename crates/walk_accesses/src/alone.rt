@@ -4,7 +4,7 @@ ghost use Rattle.walk_accesses.specs.Steps.{FindsAt, Goes, Steps, access_by, ans
 
 use core_run::Action;
 use std::alloc::AllocError;
-use thread_flow::{Access, Flow};
+use thread_interpreter::{Access, Flow};
 
 // The access that comes next in a thread without quiet steps.
 fn access_of(flow: &Flow, words: &[u64], thread: u8, next: Action) -> Option<Access>

@@ -1,7 +1,7 @@
 // The access that a thread makes at a count.
 ghost use Rattle.std.specs.Prelude.{◌≡◌, Some, slice_get, IfOk};
 ghost use Rattle.flow_code.specs.Settle.{IsRunnable};
-ghost use Rattle.thread_flow.specs.Flows.{Running};
+ghost use Rattle.thread_interpreter.specs.Flows.{Running};
 ghost use Rattle.walk_accesses.specs.Accesses.{HasWalk, AccessIs};
 ghost use Rattle.walk_accesses.specs.Steps.{FindsAt};
 
@@ -12,7 +12,7 @@ use flow_code::Code;
 use rr_base::{Bytes, List};
 use std::alloc::{AllocError, Global};
 use sync_objects::{Entry, Setup};
-use thread_flow::{Access, Flow, Formula};
+use thread_interpreter::{Access, Flow, Formula};
 
 // No access is asked for.
 const NONE: Formula = Formula {

@@ -11,7 +11,7 @@ use flow_code::Code;
 use rr_base::{Bytes, List};
 use std::alloc::{AllocError, Global};
 use sync_objects::{Entry, Setup};
-use thread_flow::{Access, Formula};
+use thread_interpreter::{Access, Formula};
 use watch_calls::{AccessTest, Watch};
 
 // The first access that was kept of a thread.

@@ -1,5 +1,5 @@
 use core_run::Walk;
-use thread_flow::Access;
+use thread_interpreter::Access;
 
 /// What is seen of a walk.
 #[derive(Clone, Copy, Debug, PartialEq, Eq)]

@@ -3,7 +3,7 @@ ghost use Rattle.std.specs.Prelude.{◌≡◌, IfOk, [], replicate};
 
 use rr_base::List;
 use std::alloc::{AllocError, Global};
-use thread_flow::Access;
+use thread_interpreter::Access;
 
 /// No accesses yet, for each thread.
 pub(crate) fn start_reads(alloc: Global, slots: u8) -> Result<Vec<List<Access>>, AllocError>

@@ -5,15 +5,15 @@ use Rattle.std.proofs.lemmas.List.{take_all}
 use Rattle.std.proofs.lemmas.Bool.{cases_lt}
 use Rattle.sync_objects.specs.Setup.{SetupView}
 use Rattle.sync_objects.specs.declared.entry.Entry.{Entry}
-use Rattle.runs.specs.Steps.{State, AllEnded}
-use Rattle.runs.specs.Walk.{part}
-use Rattle.thread_flow.specs.declared.access.Formula.{Formula}
+use Rattle.run_theory.specs.Steps.{State, AllEnded}
+use Rattle.run_theory.specs.Walk.{part}
+use Rattle.thread_interpreter.specs.declared.access.Formula.{Formula}
 use Rattle.core_run.specs.declared.outcome.Walk.{Walk}
 use Rattle.core_run.specs.declared.outcome.Walk.TheVariants as walk
 use Rattle.core_run.specs.Machine.{Told, machine, start_state}
 use Rattle.core_run.specs.Walks.{first_trap, TrapOf, walk_of, WalkIs, IsWhole, IsRefusedAt, IsUnfinished, reads_of}
 use Rattle.flow_code.specs.declared.code.Code.{Code}
-use Rattle.answers.specs.declared.answer.Answer.TheVariants as answer
+use Rattle.command_line.specs.declared.answer.Answer.TheVariants as answer
 use Rattle.walk_answers.specs.Walking.{answer_of, kept}
 
 same_some : {A : Type 0} (x y : A) → Some x ≡ Some y → x ≡ y

@@ -1,4 +1,4 @@
-//! What is told of a walk: its answer, and the file of the accesses that it kept. It stands on `core_run`, `outcomes` and
+//! What is told of a walk: its answer, and the file of the accesses that it kept. It stands on `core_run`, `job_outcomes` and
 //! `reads_text`. It promises both exactly, and that a log has one walk on a code.
 #![tactic(auto)]
 

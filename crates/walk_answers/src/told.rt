@@ -3,13 +3,13 @@
 ghost use Rattle.std.specs.Prelude.{◌≡◌, ◌++◌, IfOk, OnOk, option_map};
 ghost use Rattle.walk_answers.specs.Walking as spec;
 
-use answers::Answer;
+use command_line::Answer;
 use core_run::Walk;
-use outcomes::{Outcome, Put};
+use job_outcomes::{Outcome, Put};
 use reads_text::reads_text;
 use rr_base::List;
 use std::alloc::{AllocError, Global};
-use thread_flow::{Access, Formula};
+use thread_interpreter::{Access, Formula};
 
 /// Which accesses are kept: all loads where a file is named for them, and none otherwise.
 pub fn formula_of(reads: Option<&str>) -> Formula

@@ -1,7 +1,7 @@
 -- Between two points there is one lowest chain.
 use Rattle.std.proofs.Common.{◌≡◌, ℕ, ◌<◌, ◌⊎◌, inl, inr, true, false, List, [], ◌∷◌, ◌++◌, Option, Some, None, refl, sym, ap, subst, ◌∙◌, append-nil}
 use Rattle.std.specs.Prelude.{slice_get}
-use Rattle.runs.proofs.InTime.{places}
+use Rattle.run_theory.proofs.InTime.{places}
 use Rattle.sync_objects.specs.declared.entry.Entry.{Entry}
 use Rattle.chain_report.specs.Chains.{is_after}
 use Rattle.chain_report.specs.Finds.{IsLinked, at_first, onward, IsEligible, after, behind, IsLinkedTo, GoesOnFrom, EndsAt, IsLowestFrom, IsLowest}

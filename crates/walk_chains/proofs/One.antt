@@ -1,7 +1,7 @@
 -- A log has one answer for two points on a code.
 use Rattle.std.proofs.Common.{◌≡◌, refl, sym, ap, subst, ◌∙◌, ℕ, ◌⊎◌, inl, inr, List, arith}
-use Rattle.answers.specs.declared.answer.Answer.{Answer}
-use Rattle.answers.specs.declared.answer.Answer.TheVariants as answer
+use Rattle.command_line.specs.declared.answer.Answer.{Answer}
+use Rattle.command_line.specs.declared.answer.Answer.TheVariants as answer
 use Rattle.chain_report.specs.Finds.{ComesFirst, FoundIs, IsLowest, IsWrongAt}
 use Rattle.chain_report.specs.declared.point.Found.{Found}
 use Rattle.chain_report.specs.declared.point.Found.TheVariants as found
@@ -10,8 +10,8 @@ use Rattle.core_run.specs.declared.outcome.Walk.{Walk}
 use Rattle.core_run.specs.declared.outcome.Walk.TheVariants as walk
 use Rattle.flow_code.specs.Settle.{IsRunnable}
 use Rattle.flow_code.specs.declared.code.Code.{Code}
-use Rattle.outcomes.specs.Outcomes.{answers}
-use Rattle.outcomes.specs.declared.outcome.Outcome.{Outcome}
+use Rattle.job_outcomes.specs.Outcomes.{answers}
+use Rattle.job_outcomes.specs.declared.outcome.Outcome.{Outcome}
 use Rattle.sync_objects.specs.Setup.{IsWithinLimits, SetupView}
 use Rattle.sync_objects.specs.declared.entry.Entry.{Entry}
 use Rattle.walk_answers.proofs.OneWalk.{one_walk}

@@ -9,16 +9,16 @@ use Rattle.flow_code.specs.declared.code.Code.{Code}
 use Rattle.flow_code.specs.Settle.{IsRunnable}
 use Rattle.core_run.specs.Machine.{Told, machine, start_state}
 use Rattle.core_run.proofs.Lawful.{lawful}
-use Rattle.runs.specs.Labels.{Label, label_thread}
-use Rattle.runs.specs.Laws.{NoAccess}
-use Rattle.runs.specs.Ordered.{Event, Did, effect_event, event_access, event_of_thread, operation_event, state_at}
-use Rattle.runs.specs.Steps.{Change, NotAllowed, Becomes, Effect, Refused, Marks, Loads, Stores, Operates, Machine, State, stepped, run, count_of, effect_entry, entry_of_thread, number_at}
-use Rattle.runs.proofs.Counts.{counted}
-use Rattle.runs.proofs.Grows.{run_grows}
-use Rattle.runs.proofs.InTime.{places}
-use Rattle.held_locks.proofs.Stepping.{event_is_own, has_stepped}
-use Rattle.held_locks.proofs.Turns.{place_at, along}
-use Rattle.source_runs.specs.WalkEvents.{labels_of_walk}
+use Rattle.run_theory.specs.Labels.{Label, label_thread}
+use Rattle.run_theory.specs.Laws.{NoAccess}
+use Rattle.run_theory.specs.Ordered.{Event, Did, effect_event, event_access, event_of_thread, operation_event, state_at}
+use Rattle.run_theory.specs.Steps.{Change, NotAllowed, Becomes, Effect, Refused, Marks, Loads, Stores, Operates, Machine, State, stepped, run, count_of, effect_entry, entry_of_thread, number_at}
+use Rattle.run_theory.proofs.Counts.{counted}
+use Rattle.run_theory.proofs.Grows.{run_grows}
+use Rattle.run_theory.proofs.InTime.{places}
+use Rattle.lock_ownership.proofs.Stepping.{event_is_own, has_stepped}
+use Rattle.lock_ownership.proofs.Turns.{place_at, along}
+use Rattle.lowering_simulation.specs.WalkEvents.{labels_of_walk}
 use Rattle.chain_report.specs.Accesses.{IsAccessOf}
 use Rattle.chain_report.specs.Finds.{ComesFirst}
 use Rattle.chain_report.specs.declared.point.Point.{Point}

@@ -10,8 +10,8 @@ use Rattle.core_run.specs.Walks.{WalkIs}
 use Rattle.core_run.specs.declared.outcome.Walk.{Walk}
 use Rattle.flow_code.specs.Settle.{IsRunnable}
 use Rattle.flow_code.specs.declared.code.Code.{Code}
-use Rattle.outcomes.specs.Outcomes.{answers}
-use Rattle.outcomes.specs.declared.outcome.Outcome.{Outcome}
+use Rattle.job_outcomes.specs.Outcomes.{answers}
+use Rattle.job_outcomes.specs.declared.outcome.Outcome.{Outcome}
 use Rattle.sync_objects.specs.Setup.{IsWithinLimits, SetupView}
 use Rattle.sync_objects.specs.declared.entry.Entry.{Entry}
 use Rattle.walk_answers.specs.Walking.{no_reads}

@@ -9,7 +9,7 @@ use core_run::walk;
 use lock_sound::{Weakened, law_weakened_runs};
 use number_text::push_numbered;
 use order_log::Log;
-use outcomes::Outcome;
+use job_outcomes::Outcome;
 use rr_base::{Bytes, List};
 use std::alloc::{AllocError, Global};
 use walk_answers::formula_of;

@@ -1,15 +1,15 @@
 -- A log has one answer to a formula on a code.
 use Rattle.std.proofs.Common.{◌≡◌, refl, sym, ap, ◌∙◌, ℕ, List}
-use Rattle.answers.specs.declared.answer.Answer.{Answer}
-use Rattle.answers.specs.declared.answer.Answer.TheVariants as answer
+use Rattle.command_line.specs.declared.answer.Answer.{Answer}
+use Rattle.command_line.specs.declared.answer.Answer.TheVariants as answer
 use Rattle.core_run.specs.declared.outcome.Walk.{Walk}
 use Rattle.core_run.specs.declared.outcome.Walk.TheVariants as walk
 use Rattle.flow_code.specs.declared.code.Code.{Code}
-use Rattle.outcomes.specs.Outcomes.{answers}
-use Rattle.outcomes.specs.declared.outcome.Outcome.{Outcome}
+use Rattle.job_outcomes.specs.Outcomes.{answers}
+use Rattle.job_outcomes.specs.declared.outcome.Outcome.{Outcome}
 use Rattle.sync_objects.specs.Setup.{SetupView}
 use Rattle.sync_objects.specs.declared.entry.Entry.{Entry}
-use Rattle.thread_flow.specs.declared.access.Formula.{Formula}
+use Rattle.thread_interpreter.specs.declared.access.Formula.{Formula}
 use Rattle.walk_accesses.specs.Accesses.{IsWatched, Placed, accesses_in, first_seen, seen_of}
 use Rattle.walk_accesses.specs.declared.seen.Watched.{Watched}
 use Rattle.walk_answers.proofs.OneWalk.{one_walk}

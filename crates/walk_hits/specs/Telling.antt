@@ -1,18 +1,18 @@
 -- What is told of the first access of a walk that meets a formula.
 use Rattle.std.specs.Prelude.{◌≡◌, refl, ℕ, true, false, if◌then◌else◌, List, ◌++◌, codes, decimal}
 use Rattle.std.specs.Fmt.{digits}
-use Rattle.answers.specs.declared.answer.Answer.{Answer}
-use Rattle.answers.specs.declared.answer.Answer.TheVariants as answer
+use Rattle.command_line.specs.declared.answer.Answer.{Answer}
+use Rattle.command_line.specs.declared.answer.Answer.TheVariants as answer
 use Rattle.core_run.specs.declared.outcome.Walk.{Walk}
 use Rattle.core_run.specs.declared.outcome.Walk.TheVariants as walk
 use Rattle.flow_code.specs.declared.code.Code.{Code}
-use Rattle.outcomes.specs.Outcomes.{answers}
-use Rattle.outcomes.specs.declared.outcome.Outcome.{Outcome}
+use Rattle.job_outcomes.specs.Outcomes.{answers}
+use Rattle.job_outcomes.specs.declared.outcome.Outcome.{Outcome}
 use Rattle.reads_text.specs.Text.{value_text}
 use Rattle.sync_objects.specs.Setup.{SetupView}
 use Rattle.sync_objects.specs.declared.entry.Entry.{Entry}
-use Rattle.thread_flow.specs.declared.access.Access.{Access}
-use Rattle.thread_flow.specs.declared.access.Formula.{Formula}
+use Rattle.thread_interpreter.specs.declared.access.Access.{Access}
+use Rattle.thread_interpreter.specs.declared.access.Formula.{Formula}
 use Rattle.walk_accesses.specs.Accesses.{IsWatched}
 use Rattle.walk_accesses.specs.declared.seen.Seen.{Seen}
 use Rattle.walk_accesses.specs.declared.seen.Seen.TheVariants as seen

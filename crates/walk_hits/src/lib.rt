@@ -1,5 +1,5 @@
 //! The first access of a log's walk that meets a formula, as it is told. It stands on `core_run`, `walk_accesses` and
-//! `outcomes`. It promises the line that is told of it, and that a log has one answer on a code.
+//! `job_outcomes`. It promises the line that is told of it, and that a log has one answer on a code.
 #![tactic(auto)]
 
 mod law;

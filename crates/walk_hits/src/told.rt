@@ -5,16 +5,16 @@ ghost use Rattle.flow_code.specs.Settle.{IsRunnable};
 ghost use Rattle.walk_hits.specs.Telling as spec;
 ghost use Rattle.walk_hits.specs.Telling.{TellsHit};
 
-use answers::Answer;
+use command_line::Answer;
 use core_run::Walk;
 use flow_code::Code;
 use number_text::push_numbered;
 use order_log::Log;
-use outcomes::Outcome;
+use job_outcomes::Outcome;
 use reads_text::push_value;
 use rr_base::{Bytes, List};
 use std::alloc::{AllocError, Global};
-use thread_flow::{Access, Formula};
+use thread_interpreter::{Access, Formula};
 use walk_accesses::{Seen, first_in_walk};
 use watch_calls::watch_of;
 

@@ -12,7 +12,7 @@ use Rattle.core_run.specs.Walks.{walk_of}
 use Rattle.profiles.specs.Profile.{Text, Pair, text_order, ordered, AreTexts, ArePairs, IsLesserFirst}
 use Rattle.flow_code.specs.declared.code.Code.{Code}
 use Rattle.flow_code.specs.declared.code.Function.{Function}
-use Rattle.outcomes.specs.Puts.{Put}
+use Rattle.job_outcomes.specs.Puts.{Put}
 use Rattle.seen_pairs.specs.Seen.{AreSeen, IsSeen, SeenIs, name_in, name_of}
 use Rattle.sync_objects.specs.Setup.{SetupView}
 use Rattle.sync_objects.specs.declared.entry.Entry.{Entry}

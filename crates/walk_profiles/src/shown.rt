@@ -11,11 +11,11 @@ ghost use Rattle.walk_answers.specs.Walking.{no_reads};
 ghost use Rattle.walk_profiles.specs.Profiling as spec;
 ghost use Rattle.walk_profiles.specs.Profiling.{PutsFor, PutsWalked, ShowsProfile};
 
-use answers::Answer;
+use command_line::Answer;
 use core_run::{Walk, walk};
 use flow_code::Code;
 use order_log::Log;
-use outcomes::{Outcome, Put};
+use job_outcomes::{Outcome, Put};
 use profile_book::write_profile;
 use profiles::FunctionPairs;
 use rr_base::{Bytes, List};

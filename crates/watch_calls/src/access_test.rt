@@ -1,9 +1,9 @@
 // What may stand in a watch for a formula.
 ghost use Rattle.std.specs.Prelude.{◌≡◌};
-ghost use Rattle.thread_flow.specs.Formulas.{meets, is_of_thread as is_of, has_value as has_value_of};
-ghost use Rattle.thread_flow.specs.declared.access.Formula.{Formula as FormulaOf};
+ghost use Rattle.thread_interpreter.specs.Formulas.{meets, is_of_thread as is_of, has_value as has_value_of};
+ghost use Rattle.thread_interpreter.specs.declared.access.Formula.{Formula as FormulaOf};
 
-use thread_flow::{Access, Formula};
+use thread_interpreter::{Access, Formula};
 
 /// A test of accesses. It may be called on every access.
 pub trait AccessTest {

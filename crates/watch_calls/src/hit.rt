@@ -1,11 +1,11 @@
 // The first access that meets a watch.
 ghost use Rattle.std.specs.Prelude.{◌≡◌, ◌<◌, ◌^◌, length, position};
-ghost use Rattle.thread_flow.specs.Formulas.{meets};
+ghost use Rattle.thread_interpreter.specs.Formulas.{meets};
 
 use crate::access_test::AccessTest;
 use crate::watch::Watch;
 use rr_base::List;
-use thread_flow::Access;
+use thread_interpreter::Access;
 
 /// The position of the first of the accesses that meets the formula of the watch.
 pub fn first_hit<T: AccessTest + Sync>(accesses: &List<Access>, watch: &Watch<T>) -> Option<u32>

@@ -52,7 +52,7 @@ struct IsLoad;
 
 impl AccessTest for IsLoad {
     ghost use Rattle.std.specs.Prelude.{◌≡◌, None, true, false};
-    ghost use Rattle.thread_flow.specs.declared.access.Formula.{Formula};
+    ghost use Rattle.thread_interpreter.specs.declared.access.Formula.{Formula};
 
     ghost stands_for = { λ _ f. f ≡ record { loads = true; stores = false; thread = None; low = 0; high = 4294967295; value = None } };
 

@@ -1,10 +1,10 @@
 // A formula, with a test that answers it.
 ghost use Rattle.std.specs.Prelude.{◌≡◌};
-ghost use Rattle.thread_flow.specs.Formulas.{meets as meets_of};
+ghost use Rattle.thread_interpreter.specs.Formulas.{meets as meets_of};
 
 use crate::access_test::AccessTest;
 use std::marker::Model;
-use thread_flow::{Access, Formula};
+use thread_interpreter::{Access, Formula};
 
 /// A formula, with a test that answers at every access exactly whether this meets it.
 #[derive(Drop)]
@@ -14,7 +14,7 @@ pub struct Watch<T: AccessTest + Sync> {
 }
 
 impl<T: AccessTest + Sync> Model for Watch<T> {
-    ghost use Rattle.thread_flow.specs.declared.access.Formula.{Formula};
+    ghost use Rattle.thread_interpreter.specs.declared.access.Formula.{Formula};
 
     ghost Value = { Formula };
 

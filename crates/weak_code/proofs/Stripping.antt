@@ -16,12 +16,12 @@ use Rattle.flow_code.specs.Order.{order_fits}
 use Rattle.flow_code.specs.Kinds.{act_fits, has_instr, has_register}
 use Rattle.flow_code.specs.Regions.{loop_fits, bound_is_register}
 use Rattle.flow_code.specs.Valid.{is_valid, is_within_limits, all_locks_fit, has_one_main, functions_fit, function_fits, registers_fit, acts_fit, loops_fit, regions_fit}
-use Rattle.abstract_machine.specs.Layouts.{sites_fit}
+use Rattle.word_semantics.specs.Layouts.{sites_fit}
 use Rattle.flow_code.specs.Addresses.{globals_fit}
 use Rattle.facts.specs.declared.pair.Pair.{Pair}
 use Rattle.facts.specs.PointsTo.{Tables}
-use Rattle.weak_facts.specs.declared.grain.Grained.{Grained}
-use Rattle.weak_facts.specs.declared.range.Range.{Range}
+use Rattle.weak_lock_facts.specs.declared.grain.Grained.{Grained}
+use Rattle.weak_lock_facts.specs.declared.range.Range.{Range}
 use Rattle.weak_code.specs.declared.stretch.Stretch.{Stretch}
 use Rattle.weak_code.specs.WeakLocks.{places_in}
 use Rattle.weak_code.specs.Places.{gives, takes, turned, left, before, ending, beginning, place_from, place_of, act_or_mark, seat_of, enter}

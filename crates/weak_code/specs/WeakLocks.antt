@@ -7,9 +7,9 @@ use Rattle.flow_code.specs.declared.code.LockInfo.{LockInfo}
 use Rattle.facts.specs.declared.pair.Pair.{Pair}
 use Rattle.facts.specs.PointsTo.{Tables}
 use Rattle.facts.specs.Pairs.{place_same, places_of}
-use Rattle.weak_facts.specs.declared.grain.Grain.{Grain}
-use Rattle.weak_facts.specs.declared.grain.Grain.TheVariants as grain
-use Rattle.weak_facts.specs.declared.grain.Grained.{Grained}
+use Rattle.weak_lock_facts.specs.declared.grain.Grain.{Grain}
+use Rattle.weak_lock_facts.specs.declared.grain.Grain.TheVariants as grain
+use Rattle.weak_lock_facts.specs.declared.grain.Grained.{Grained}
 
 -- the next pair is one of the same place
 abbrev pub comes_again : Place → List Pair → Bool

@@ -5,8 +5,8 @@ ghost use Rattle.flow_code.specs.Settle.{IsRunnable};
 ghost use Rattle.flow_code.specs.Valid.{is_valid};
 ghost use Rattle.facts.specs.declared.pair.Pair.{Pair};
 ghost use Rattle.facts.specs.PointsTo.{Tables};
-ghost use Rattle.weak_facts.specs.declared.grain.Grained.{Grained};
-ghost use Rattle.weak_facts.specs.declared.range.Range.{Range};
+ghost use Rattle.weak_lock_facts.specs.declared.grain.Grained.{Grained};
+ghost use Rattle.weak_lock_facts.specs.declared.range.Range.{Range};
 ghost use Rattle.weak_code.specs.Weakened.{weakened};
 ghost use Rattle.weak_code.specs.Stripped.{strip, is_plain};
 

@@ -1,7 +1,7 @@
 //! Regions of a function, and where they are open.
 use flow_code::Region;
 use rr_base::List;
-use weak_facts::Grain;
+use weak_lock_facts::Grain;
 
 /// An access of a function that may race: its instruction, its grain, the register that points to its cell, how far
 /// its element is from the counter of its loop where that is known, and the weak locks of the places that it may touch.

@@ -1,6 +1,6 @@
 -- What the thread's own next action comes to.
 use Rattle.std.proofs.Common.{◌≡◌, ℕ, refl, sym, ap, subst, ◌∙◌, inl, inr, ⊎_elim, arith}
-use Rattle.abstract_machine.specs.declared.event.Action.TheVariants as action
+use Rattle.word_semantics.specs.declared.event.Action.TheVariants as action
 use Rattle.flow_code.specs.Next.{action_at}
 use Rattle.flow_code.specs.Settle.{IsRunnable}
 use Rattle.flow_code.proofs.Settle.{settled_action}

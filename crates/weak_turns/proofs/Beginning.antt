@@ -2,8 +2,8 @@
 use Rattle.std.proofs.Common.{◌≡◌, ℕ, ◌*◌, false, List, [], length, refl, ap, inl, arith}
 use Rattle.flow_code.specs.Settle.{IsRunnable, settled}
 use Rattle.core_run.specs.Machine.{Told, start_told}
-use Rattle.held_locks.proofs.StripeLaws.{has_its}
-use Rattle.held_locks.specs.ThreadStripes.{HasItsStripes}
+use Rattle.lock_ownership.proofs.StripeLaws.{has_its}
+use Rattle.lock_ownership.specs.ThreadStripes.{HasItsStripes}
 use Rattle.shared_cells.specs.Rule.{Board}
 use Rattle.shared_cells.specs.Seats.{IsSeatOf, start_view, view_of}
 use Rattle.shared_cells.specs.declared.seat.Seat.{Seat}

@@ -5,7 +5,7 @@ use Rattle.flow_code.specs.declared.thread.Stripe.{Stripe}
 use Rattle.flow_code.specs.Holding.{number_of_stripe, number_of_pair, is_listed, held, owes, has_stripes, with_pairs}
 use Rattle.flow_code.specs.Next.{same_stripe, holds}
 use Rattle.flow_code.specs.Threads.{OpenRegion}
-use Rattle.held_locks.proofs.Standings.{Sorted, marked}
+use Rattle.lock_ownership.proofs.Standings.{Sorted, marked}
 
 -- ---- filters
 

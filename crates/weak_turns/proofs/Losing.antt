@@ -3,11 +3,11 @@ use Rattle.std.proofs.Common.{◌≡◌, ℕ, zero, suc, ◌+◌, not, Bool, tru
 use Rattle.sync_objects.specs.Setup.{SetupView}
 use Rattle.sync_objects.specs.declared.object.ObjId.TheVariants as object
 use Rattle.sync_objects.specs.declared.operation.Op.TheVariants as op
-use Rattle.abstract_machine.specs.declared.event.Due.{Due}
-use Rattle.abstract_machine.specs.declared.event.Due.TheVariants as due
-use Rattle.abstract_machine.specs.declared.library_call.LibraryCall.TheVariants as call
-use Rattle.abstract_machine.specs.Library.{library_due}
-use Rattle.abstract_machine.specs.Registers.{words_of}
+use Rattle.word_semantics.specs.declared.event.Due.{Due}
+use Rattle.word_semantics.specs.declared.event.Due.TheVariants as due
+use Rattle.word_semantics.specs.declared.library_call.LibraryCall.TheVariants as call
+use Rattle.word_semantics.specs.Library.{library_due}
+use Rattle.word_semantics.specs.Registers.{words_of}
 use Rattle.flow_code.specs.declared.act.Act.{Act}
 use Rattle.flow_code.specs.declared.act.Act.TheVariants as act
 use Rattle.flow_code.specs.declared.code.Code.{Code}
@@ -20,11 +20,11 @@ use Rattle.flow_code.specs.Threads.{OpenRegion, Thread}
 use Rattle.flow_code.proofs.Dues.{quiet_due}
 use Rattle.flow_code.proofs.Quietly.{IsQuiet, is_quiet_step}
 use Rattle.flow_code.proofs.Settle.{settled_keeps, settled_step}
-use Rattle.held_locks.proofs.DueSteps.{stepped_steps}
-use Rattle.held_locks.proofs.Holds.{numbered, holds_is, holds_small}
-use Rattle.held_locks.proofs.Regions.{Agree}
-use Rattle.held_locks.proofs.Standings.{held_sorted, marked, marks}
-use Rattle.held_locks.proofs.ThreadSteps.{Steps}
+use Rattle.lock_ownership.proofs.DueSteps.{stepped_steps}
+use Rattle.lock_ownership.proofs.Holds.{numbered, holds_is, holds_small}
+use Rattle.lock_ownership.proofs.Regions.{Agree}
+use Rattle.lock_ownership.proofs.Standings.{held_sorted, marked, marks}
+use Rattle.lock_ownership.proofs.ThreadSteps.{Steps}
 use Rattle.weak_turns.proofs.Beside.{beside, is_leaving, act_due_beside, act_after_beside}
 use Rattle.weak_turns.proofs.Lists.{others, keeps, all_keep, all_keep_twice, held_again, held_marked, listed_marked, listed_filter, owes_marked, owes_lost, holds_held}
 

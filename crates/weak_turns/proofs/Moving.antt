@@ -12,11 +12,11 @@ use Rattle.sync_objects.specs.declared.operation.Op.{Op}
 use Rattle.sync_objects.specs.declared.operation.Op.TheVariants as op
 use Rattle.sync_objects.specs.declared.operation.OpName.{OpName}
 use Rattle.sync_objects.specs.declared.operation.OpName.TheVariants as name
-use Rattle.abstract_machine.proofs.Calls.{is_from_outside}
-use Rattle.abstract_machine.specs.Limits.{most_entries, most_revokes}
-use Rattle.abstract_machine.specs.Values.{number, word}
-use Rattle.abstract_machine.specs.declared.event.Action.{Action}
-use Rattle.abstract_machine.specs.declared.event.Action.TheVariants as action
+use Rattle.word_semantics.proofs.Calls.{is_from_outside}
+use Rattle.word_semantics.specs.Limits.{most_entries, most_revokes}
+use Rattle.word_semantics.specs.Values.{number, word}
+use Rattle.word_semantics.specs.declared.event.Action.{Action}
+use Rattle.word_semantics.specs.declared.event.Action.TheVariants as action
 use Rattle.flow_code.specs.Next.{has_begun, has_ended, holds, action_at, stepped, gave_up, stopped, slot_closed}
 use Rattle.flow_code.specs.Settle.{settled, IsRunnable}
 use Rattle.flow_code.specs.Threads.{Thread}
@@ -26,9 +26,9 @@ use Rattle.core_run.specs.Machine.{Told, access_of, marked, operated, entry_of}
 use Rattle.core_run.specs.Shown.{with_read}
 use Rattle.core_run.specs.Walks.{kept_reads}
 use Rattle.core_run.proofs.Walked.{kept_more}
-use Rattle.thread_flow.specs.Pieces.{piece_next}
+use Rattle.thread_interpreter.specs.Pieces.{piece_next}
 use Rattle.thread_step.specs.Steps.{Stepping, IsSameRun, told_of, next_of, after, reads_after}
-use Rattle.held_locks.specs.ThreadStripes.{HasItsStripes}
+use Rattle.lock_ownership.specs.ThreadStripes.{HasItsStripes}
 use Rattle.shared_cells.specs.Seats.{view_of, place_in, AttemptIs, IsRefused, HasMoved}
 use Rattle.shared_cells.specs.Threads.{Own, way_of, pending, after_by, after_load, after_store, after_operation, IsNext, IsDueIn, IsDueBy}
 use Rattle.shared_cells.specs.Views.{SeatView, looked, missed, with_thread}

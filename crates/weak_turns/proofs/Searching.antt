@@ -3,7 +3,7 @@ use Rattle.std.proofs.Common.{◌≡◌, ◌≢◌, ℕ, ◌+◌, ◌-◌, ◌*�
 use Rattle.std.proofs.lemmas.Bool.{lt-ltb, true≢false, eq-eqb}
 use Rattle.std.proofs.lemmas.Bool.Decides.{nat_tests}
 use Rattle.std.specs.Prelude.{slice_index}
-use Rattle.abstract_machine.specs.Limits.{most_entries, most_revokes}
+use Rattle.word_semantics.specs.Limits.{most_entries, most_revokes}
 use Rattle.core_run.specs.Words.{has_object}
 use Rattle.flow_code.specs.Next.{holds, same_stripe}
 use Rattle.flow_code.specs.Threads.{Thread}

@@ -2,8 +2,8 @@
 use Rattle.std.proofs.Common.{◌≡◌, ◌≢◌, ℕ, zero, suc, ◌+◌, ◌≤◌, true, false, List, refl, sym, ap, subst, ◌∙◌, inl, ⊎_elim, pos, arith}
 use Rattle.std.proofs.lemmas.Bool.{true≢false}
 use Rattle.sync_objects.specs.Setup.{SetupView}
-use Rattle.abstract_machine.specs.declared.event.Action.{Action}
-use Rattle.abstract_machine.specs.declared.event.Action.TheVariants as action
+use Rattle.word_semantics.specs.declared.event.Action.{Action}
+use Rattle.word_semantics.specs.declared.event.Action.TheVariants as action
 use Rattle.flow_code.specs.declared.code.Code.{Code}
 use Rattle.flow_code.specs.Next.{has_ended, action_at}
 use Rattle.flow_code.specs.Settle.{settled}
@@ -12,7 +12,7 @@ use Rattle.flow_code.proofs.Counts.{action_counts, ended_action, settled_keeps_a
 use Rattle.core_run.specs.Machine.{Told}
 use Rattle.core_run.specs.Walks.{kept_reads}
 use Rattle.thread_step.specs.Steps.{Stepping, IsSameRun, told_of, next_of}
-use Rattle.held_locks.specs.ThreadStripes.{HasItsStripes}
+use Rattle.lock_ownership.specs.ThreadStripes.{HasItsStripes}
 use Rattle.shared_cells.specs.Threads.{AreMarks, after_marks, own, pending, IsNext}
 use Rattle.shared_cells.specs.Views.{Note, SeatView, with_thread}
 use Rattle.weak_turns.specs.Finding.{HasRested}

@@ -8,12 +8,12 @@ use Rattle.flow_code.specs.Holding.{nesting}
 use Rattle.flow_code.specs.Next.{stepped, gave_up, holds}
 use Rattle.flow_code.specs.Settle.{settled}
 use Rattle.flow_code.specs.Threads.{OpenRegion, Thread}
-use Rattle.held_locks.specs.ThreadStripes.{HasItsStripes, IsOpen}
-use Rattle.held_locks.proofs.DueSteps.{revoked_steps, settled_settles, stepped_steps}
-use Rattle.held_locks.proofs.Holds.{numbered, holds_is, owes_is}
-use Rattle.held_locks.proofs.Regions.{Agree, AreOpen}
-use Rattle.held_locks.proofs.Standings.{standing, is_held, is_owed, is_there}
-use Rattle.held_locks.proofs.StripeLaws.{has_its, settled_holds}
+use Rattle.lock_ownership.specs.ThreadStripes.{HasItsStripes, IsOpen}
+use Rattle.lock_ownership.proofs.DueSteps.{revoked_steps, settled_settles, stepped_steps}
+use Rattle.lock_ownership.proofs.Holds.{numbered, holds_is, owes_is}
+use Rattle.lock_ownership.proofs.Regions.{Agree, AreOpen}
+use Rattle.lock_ownership.proofs.Standings.{standing, is_held, is_owed, is_there}
+use Rattle.lock_ownership.proofs.StripeLaws.{has_its, settled_holds}
 
 in_words : (o : Option Bool) → (is_held o || is_owed o) ≡ is_there o
 in_words None = refl

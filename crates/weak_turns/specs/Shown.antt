@@ -8,7 +8,7 @@ use Rattle.flow_code.specs.Settle.{settled}
 use Rattle.flow_code.specs.Threads.{Thread}
 use Rattle.core_run.specs.Machine.{Told}
 use Rattle.core_run.specs.Walks.{kept_reads}
-use Rattle.held_locks.specs.ThreadStripes.{HasItsStripes}
+use Rattle.lock_ownership.specs.ThreadStripes.{HasItsStripes}
 use Rattle.shared_cells.specs.Rule.{Board}
 use Rattle.shared_cells.specs.Seats.{IsSeatOf, view_of}
 use Rattle.shared_cells.specs.Threads.{AreMarks, own, pending}

@@ -1,8 +1,8 @@
 -- What a turn of a carrier comes to, and why.
 use Rattle.std.specs.Prelude.{◌≡◌, ◌≢◌, ℕ, ◌+◌, ◌-◌, ◌*◌, ◌^◌, ◌<◌, ◌≤◌, Bool, true, false, List, ◌++◌, length, Option, Some, None, slice_index, slice_set, Contains, ◌⊎◌}
-use Rattle.abstract_machine.specs.Limits.{most_entries, most_revokes}
-use Rattle.abstract_machine.specs.declared.event.Action.{Action}
-use Rattle.abstract_machine.specs.declared.event.Action.TheVariants as action
+use Rattle.word_semantics.specs.Limits.{most_entries, most_revokes}
+use Rattle.word_semantics.specs.declared.event.Action.{Action}
+use Rattle.word_semantics.specs.declared.event.Action.TheVariants as action
 use Rattle.core_run.specs.Machine.{Told}
 use Rattle.core_run.specs.Words.{cells_of, has_object, place_of}
 use Rattle.flow_code.specs.Next.{has_begun, holds}

@@ -1,6 +1,6 @@
 // The thread's own next action.
 ghost use Rattle.std.specs.Prelude.{◌≡◌, ◌+◌, ◌<◌, ◌≤◌, false, length};
-ghost use Rattle.abstract_machine.specs.declared.event.Action.TheVariants as action;
+ghost use Rattle.word_semantics.specs.declared.event.Action.TheVariants as action;
 ghost use Rattle.core_run.specs.Words.{cells_of};
 ghost use Rattle.flow_code.specs.Next.{has_ended};
 ghost use Rattle.flow_code.specs.Settle.{IsRunnable};

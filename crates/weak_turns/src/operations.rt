@@ -1,7 +1,7 @@
 // Operations that a carrier attempts.
 ghost use Rattle.std.specs.Prelude.{◌≡◌, ◌<◌, true, false, length, ◌+◌, ◌≤◌};
-ghost use Rattle.abstract_machine.specs.Limits.{most_entries, most_revokes};
-ghost use Rattle.abstract_machine.specs.declared.event.Action.TheVariants as action;
+ghost use Rattle.word_semantics.specs.Limits.{most_entries, most_revokes};
+ghost use Rattle.word_semantics.specs.declared.event.Action.TheVariants as action;
 ghost use Rattle.core_run.specs.Words.{has_object};
 ghost use Rattle.flow_code.specs.Next.{has_begun, has_ended, holds};
 ghost use Rattle.flow_code.specs.Settle.{IsRunnable};

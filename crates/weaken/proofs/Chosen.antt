@@ -16,15 +16,15 @@ use Rattle.flow_code.specs.Threads.{instrs_in}
 use Rattle.flow_code.specs.Order.{order_fits, ends_in_itself, jumps_fit, objects_are_first}
 use Rattle.flow_code.specs.Kinds.{act_fits, has_instr, has_register}
 use Rattle.flow_code.specs.Valid.{is_valid, is_within_limits, all_locks_fit, has_one_main, functions_fit, function_fits, registers_fit, acts_fit, loops_fit, regions_fit}
-use Rattle.abstract_machine.specs.Layouts.{sites_fit}
+use Rattle.word_semantics.specs.Layouts.{sites_fit}
 use Rattle.flow_code.specs.Addresses.{globals_fit}
 use Rattle.facts.specs.declared.pair.AccessAt.{AccessAt}
 use Rattle.facts.specs.declared.pair.Pair.{Pair}
 use Rattle.facts.specs.Accesses.{Access}
 use Rattle.facts.specs.Pairs.{access_in, act_of, pairs_ascend, pair_less, place_less, place_same, access_less, access_same}
 use Rattle.facts.specs.PointsTo.{Tables, are_ascending, is_before}
-use Rattle.weak_facts.specs.declared.grain.Grained.{Grained}
-use Rattle.weak_facts.specs.declared.range.Range.{Range}
+use Rattle.weak_lock_facts.specs.declared.grain.Grained.{Grained}
+use Rattle.weak_lock_facts.specs.declared.range.Range.{Range}
 use Rattle.weak_code.specs.declared.stretch.RacyAccess.{RacyAccess}
 use Rattle.weak_code.specs.WeakLocks.{places_in}
 use Rattle.weak_code.specs.Stretches.{racy_access, racy_through, racy_accesses}

@@ -9,8 +9,8 @@ use Rattle.rr_base.proofs.Lists.{slice_get-set_same, slice_get-set_other}
 use Rattle.flow_code.specs.Regions.{ascend}
 use Rattle.flow_code.specs.declared.act.Instr.{Instr}
 use Rattle.flow_code.specs.declared.region.Span.{Span}
-use Rattle.weak_facts.specs.declared.grain.Grain.{Grain}
-use Rattle.weak_facts.specs.declared.grain.Grain.TheVariants as grain
+use Rattle.weak_lock_facts.specs.declared.grain.Grain.{Grain}
+use Rattle.weak_lock_facts.specs.declared.grain.Grain.TheVariants as grain
 use Rattle.weak_code.specs.declared.stretch.RacyAccess.{RacyAccess}
 use Rattle.weak_code.specs.declared.stretch.Stretch.{Stretch}
 use Rattle.weak_code.specs.Stretches.{same_grain, with_grain, with_all, with_their_locks, all_locks, last_of, span_of, spans_of, function_stretch, loop_stretch}

@@ -7,7 +7,7 @@ use Rattle.flow_code.specs.declared.code.LockInfo.{LockInfo}
 use Rattle.facts.specs.PointsTo.{are_ascending, Tables}
 use Rattle.facts.specs.Pairs.{place_same}
 use Rattle.flow_code.specs.declared.code.Code.{Code}
-use Rattle.weak_facts.specs.declared.grain.Grained.{Grained}
+use Rattle.weak_lock_facts.specs.declared.grain.Grained.{Grained}
 use Rattle.weak_code.specs.WeakLocks.{lock_at, is_striped, lock_for, locks_for}
 use Rattle.weaken.specs.Marks.{Marks}
 use Rattle.weaken.proofs.Nexts.{map_next, any_default}

@@ -2,7 +2,7 @@
 ghost use Rattle.std.specs.Prelude.{◌≡◌, ℕ, IfOk};
 ghost use Rattle.weak_code.specs.Weakened.{retarget};
 
-use abstract_machine::LibraryCall;
+use word_semantics::LibraryCall;
 use flow_code::Act;
 use rr_base::{Layout, List, Site};
 use std::alloc::{AllocError, Global};

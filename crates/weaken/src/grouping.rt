@@ -5,7 +5,7 @@ ghost use Rattle.weak_code.specs.Stretches as stretches;
 use facts::AccessAt;
 use rr_base::List;
 use std::alloc::{AllocError, Global};
-use weak_facts::{Grained, Range};
+use weak_lock_facts::{Grained, Range};
 
 /// So many empty groups.
 pub(crate) fn empty_groups<T: Drop>(alloc: Global, count: usize) -> Result<Vec<List<T>>, AllocError>

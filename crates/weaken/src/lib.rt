@@ -1,5 +1,5 @@
 //! Weak locks put into a code: the regions in which the accesses of its race pairs are guarded, each at its grain, and the
-//! instructions that take and give their locks. It stands on `rr_base`, `flow_code`, `facts`, `weak_facts` and
+//! instructions that take and give their locks. It stands on `rr_base`, `flow_code`, `facts`, `weak_lock_facts` and
 //! `weak_code`.
 #![tactic(auto)]
 

@@ -2,7 +2,7 @@
 ghost use Rattle.std.specs.Prelude.{◌≡◌, ◌<◌, ◌≤◌, ℕ, [], length, Some, IfOk, OnOk, slice_index_or, All};
 ghost use Rattle.std.specs.Option.{option_map};
 ghost use Rattle.facts.specs.Blocks.{AreStarts};
-ghost use Rattle.weak_facts.specs.Ranges.{made_at as made};
+ghost use Rattle.weak_lock_facts.specs.Ranges.{made_at as made};
 ghost use Rattle.weak_code.specs.Stretches as spec;
 ghost use Rattle.weaken.specs.Tables.{with_span};
 
@@ -12,7 +12,7 @@ use loop_bounds::{last_maker, made_at};
 use rr_base::List;
 use std::alloc::{AllocError, Global};
 use weak_code::RacyAccess;
-use weak_facts::Grain;
+use weak_lock_facts::Grain;
 
 fn moved_from(act: &Act) -> Option<u32>
     ensures { result ≡ spec.moved_from (Some act.now) }

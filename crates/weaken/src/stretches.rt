@@ -4,7 +4,7 @@ ghost use Rattle.std.specs.List.{list_any};
 ghost use Rattle.weaken.specs.declared.plan.Part.{Part};
 ghost use Rattle.flow_code.specs.Regions.{ascend};
 ghost use Rattle.flow_code.specs.Valid.{loops_fit};
-ghost use Rattle.weak_facts.specs.declared.grain.Grain.TheVariants as grains;
+ghost use Rattle.weak_lock_facts.specs.declared.grain.Grain.TheVariants as grains;
 ghost use Rattle.weak_code.specs.declared.stretch.RacyAccess.{RacyAccess};
 ghost use Rattle.weak_code.specs.Stretches as spec;
 ghost use Rattle.weaken.specs.Tables.{grown, part_of};
@@ -17,7 +17,7 @@ use flow_code::{Base, Function, LoopInfo, Region, Span, objects_len};
 use rr_base::List;
 use std::alloc::{AllocError, Global};
 use weak_code::{RacyAccess, Stretch};
-use weak_facts::Grain;
+use weak_lock_facts::Grain;
 
 fn is_whole(grain: Grain) -> bool
     ensures { result ≡ spec.same_grain grains.Function grain }

@@ -12,7 +12,7 @@ use facts::PointsTo;
 use flow_code::{Code, LockInfo};
 use rr_base::{List, Place};
 use std::alloc::{AllocError, Global};
-use weak_facts::{Grain, Grained};
+use weak_lock_facts::{Grain, Grained};
 
 /// Marks the lock of a place, if it has one.
 fn mark(locked: &[Place], place: Place, striped: &mut Vec<bool>)

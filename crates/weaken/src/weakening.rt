@@ -14,8 +14,8 @@ ghost use Rattle.weak_code.specs.Weakened as spec;
 ghost use Rattle.weak_code.specs.Stretches.{racy_accesses as racy_accesses_of, stretches_of as stretches_of_accesses};
 ghost use Rattle.weak_code.specs.Weakened.{weakened};
 ghost use Rattle.weak_code.specs.Stripped.{is_plain};
-ghost use Rattle.weak_sound.specs.Answers.{AreAnswers};
-ghost use Rattle.weak_sound.specs.Apart.{loops_are_apart};
+ghost use Rattle.weak_valid.specs.Answers.{AreAnswers};
+ghost use Rattle.weak_valid.specs.Apart.{loops_are_apart};
 ghost use Rattle.weaken.specs.Tables.{IsPlan};
 ghost use Rattle.weaken.specs.Jumps.{all_jumps_within};
 
@@ -33,7 +33,7 @@ use flow_code::{Code, Function, Instr, LoopInfo, Region};
 use rr_base::{List, Place};
 use std::alloc::{AllocError, Global};
 use weak_code::{RacyAccess, Stretch};
-use weak_facts::{Grained, Grains, Range};
+use weak_lock_facts::{Grained, Grains, Range};
 
 fn moved_loop(
     stretches: &[Stretch],

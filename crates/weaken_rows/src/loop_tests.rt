@@ -1,7 +1,7 @@
 ghost use Rattle.std.specs.Prelude.{◌≡◌, ℕ, [], ◌<◌, ◌≤◌, length, slice_get, slice_index_or, Some, IfOk};
 ghost use Rattle.flow_code.specs.declared.code.Function.{Function};
 
-use abstract_machine::{BinaryOp, LibraryCall};
+use word_semantics::{BinaryOp, LibraryCall};
 use facts::PointsTo;
 use flow_code::{Act, Bound, Code, Function, Instr, LoopInfo, Work};
 use loop_bounds::{counted_loops, ranges};
@@ -9,7 +9,7 @@ use rr_base::{Layout, List, Place, Position, PtrWord, Site};
 use std::alloc::{AllocError, Global};
 use std::process::Abort;
 use std::test::Fail;
-use weak_facts::{LoopAt, Range};
+use weak_lock_facts::{LoopAt, Range};
 
 const ORIGIN: Position = Position { line: 1, column: 1 };
 

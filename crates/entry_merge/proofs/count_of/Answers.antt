@@ -1,7 +1,7 @@
 use Rattle.std.proofs.Common.{◌≡◌, ℕ, Option, Some, None, refl, ap, ◌∙◌}
 use Rattle.std.specs.Map.{lookup}
 use Rattle.std.specs.Option.{option_map_or, unwrap_or}
-use Rattle.runs.specs.Same.{same_object}
+use Rattle.run_theory.specs.Same.{same_object}
 use Rattle.entry_merge.proofs.Objects.{eq, eq_is_same, lookup_same}
 use Rattle.entry_merge.proofs.count_of.Goals as goal
 

@@ -4,8 +4,8 @@ use Rattle.std.specs.Option.{option_map_or}
 use Rattle.std.specs.Map.{lookup}
 use Rattle.indexmap.specs.IndexMap.{get}
 use Rattle.sync_objects.specs.declared.object.ObjId.{ObjId}
-use Rattle.runs.specs.Same.{same_object}
-use Rattle.runs.proofs.SameEntries.{same_object-true}
+use Rattle.run_theory.specs.Same.{same_object}
+use Rattle.run_theory.proofs.SameEntries.{same_object-true}
 use Rattle.entry_merge.specs.Counts.{count_in}
 use Rattle.entry_merge.proofs.Objects.{eq, eq_is_same, lookup_same}
 use Rattle.entry_merge.proofs.count_up.Goals as goal

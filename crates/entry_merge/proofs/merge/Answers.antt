@@ -1,5 +1,5 @@
 use Rattle.std.proofs.Common.{◌≡◌, [], ◌∷◌, ◌++◌, sym, subst, arith, rules}
-use Rattle.runs.specs.Merge.{Stuck, Takes}
+use Rattle.run_theory.specs.Merge.{Stuck, Takes}
 use Rattle.entry_merge.specs.Counts.{count_in, AreCounted, next_by, lists_of}
 use Rattle.entry_merge.proofs.Merging.{IsBetween, taken_is_shorter, takes_next, ends}
 use Rattle.entry_merge.proofs.merge.Goals as goal

@@ -1,4 +1,4 @@
-use Rattle.runs.specs.Merge.{total_length}
+use Rattle.run_theory.specs.Merge.{total_length}
 use Rattle.entry_merge.specs.Counts.{count_in, lists_of}
 use Rattle.entry_merge.proofs.Merging.{IsBetween}
 use Rattle.entry_merge.proofs.merge.Given as goal

@@ -3,8 +3,8 @@ use Rattle.c_tree.specs.Tree.{listed_parts}
 use Rattle.c_tree.specs.View.{formal_of, part_of}
 use Rattle.c_programs.specs.Declarators.{after_params}
 use Rattle.c_names.specs.Table.{known_of}
-use Rattle.c_core.specs.Core as core
-use Rattle.c_core.specs.View.{function_of, stmt_of}
+use Rattle.core_tree.specs.Core as core
+use Rattle.core_tree.specs.View.{function_of, stmt_of}
 use Rattle.c_operators.specs.Views.{frame_in, source_in}
 use Rattle.c_elaborate.proofs.Defined.{defined_made}
 use Rattle.c_elaborate.proofs.functions.defined.Goals as goal

@@ -1,5 +1,5 @@
 use Rattle.std.proofs.Common.{◌≡◌, ◌++◌, drop, map}
-use Rattle.c_core.specs.View.{pointer_of}
+use Rattle.core_tree.specs.View.{pointer_of}
 use Rattle.c_elaborate.specs.Pointers as spec
 use Rattle.c_elaborate.proofs.pointers.pointer_types.Given as goal
 

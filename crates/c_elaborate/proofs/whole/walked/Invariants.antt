@@ -2,7 +2,7 @@ use Rattle.std.proofs.Common.{◌≡◌, ◌++◌, drop, map}
 use Rattle.c_tree.specs.View.{outer_of, program_of}
 use Rattle.c_names.specs.Known.{known_at_start}
 use Rattle.c_names.specs.Table.{known_of}
-use Rattle.c_core.specs.View.{function_of}
+use Rattle.core_tree.specs.View.{function_of}
 use Rattle.c_elaborate.specs.Whole.{outers_functions, outers_words}
 use Rattle.c_operators.specs.Views.{source_in}
 use Rattle.c_elaborate.proofs.whole.walked.Given as goal

@@ -1,5 +1,5 @@
 use Rattle.std.proofs.Common.{◌≡◌, ◌++◌, drop, map}
-use Rattle.c_core.specs.View.{arrival_of}
+use Rattle.core_tree.specs.View.{arrival_of}
 use Rattle.c_frames.specs.Frames as spec
 use Rattle.c_frames.proofs.frames.arrivals_of.Given as goal
 

@@ -1,7 +1,7 @@
 use Rattle.std.proofs.Common.{◌≡◌, IfOk, sym, subst}
 use Rattle.c_tree.proofs.Views.{inits_of_row-list}
-use Rattle.c_core.specs.Core as core
-use Rattle.c_core.specs.View.{exp_of}
+use Rattle.core_tree.specs.Core as core
+use Rattle.core_tree.specs.View.{exp_of}
 use Rattle.c_operators.specs.Views.{context_of}
 use Rattle.c_initials.proofs.FirstWords.{word_of_none, word_within}
 use Rattle.c_initials.proofs.initials.+first_word.Goals as goal

@@ -2,7 +2,7 @@ use Rattle.std.proofs.Common.{◌≡◌, ◌++◌, drop, map}
 use Rattle.c_tree.specs.Tree.{listed_inits}
 use Rattle.c_tree.specs.View.{init_of}
 use Rattle.c_types.specs.Shown.{shown_maybe}
-use Rattle.c_core.specs.View.{stmt_of}
+use Rattle.core_tree.specs.View.{stmt_of}
 use Rattle.c_initials.specs.Initials.{parts_started}
 use Rattle.c_operators.specs.Views.{context_of}
 use Rattle.c_initials.proofs.initials.+initials.Given as goal

@@ -1,5 +1,5 @@
 use Rattle.std.proofs.Common.{◌≡◌, ◌++◌, drop, map}
-use Rattle.c_core.specs.View.{stmt_of}
+use Rattle.core_tree.specs.View.{stmt_of}
 use Rattle.c_initials.specs.Initials.{cleared}
 use Rattle.c_initials.proofs.initials.push_cleared.Given as goal
 

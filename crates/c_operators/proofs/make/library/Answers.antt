@@ -1,7 +1,7 @@
 use Rattle.std.proofs.Common.{◌≡◌, IfOk, ap, subst}
-use Rattle.c_core.specs.Core as core
-use Rattle.c_core.specs.View.{exp_of}
-use Rattle.c_core.proofs.Views.{exps_of_row-list}
+use Rattle.core_tree.specs.Core as core
+use Rattle.core_tree.specs.View.{exp_of}
+use Rattle.core_tree.proofs.Views.{exps_of_row-list}
 use Rattle.c_operators.proofs.make.library.Goals as goal
 
 pub returns : goal.returns

@@ -2,8 +2,8 @@ use Rattle.std.proofs.Common.{◌≡◌, IfOk, false, refl, ap, ◌∙◌, subst
 use Rattle.c_tree.specs.declared.expr.AssignOp.{AssignOp}
 use Rattle.c_tree.specs.declared.expr.AssignOp.TheVariants as assign_op
 use Rattle.rr_base.specs.declared.position.Position.{Position}
-use Rattle.c_core.specs.Core as core
-use Rattle.c_core.specs.View.{exp_of}
+use Rattle.core_tree.specs.Core as core
+use Rattle.core_tree.specs.View.{exp_of}
 use Rattle.c_operators.specs.Denoted.{Part, value_in}
 use Rattle.c_operators.specs.Context.{Source}
 use Rattle.c_operators.specs.Operators as spec

@@ -1,6 +1,6 @@
 use Rattle.std.proofs.Common.{◌≡◌, IfOk, ap, ◌∙◌, subst}
-use Rattle.c_core.specs.declared.value.Change.{Change}
-use Rattle.c_core.specs.View.{exp_of}
+use Rattle.core_tree.specs.declared.value.Change.{Change}
+use Rattle.core_tree.specs.View.{exp_of}
 use Rattle.c_operators.specs.Denoted.{operand_in}
 use Rattle.c_operators.specs.Operators as spec
 use Rattle.c_operators.specs.Views.{denoted_of, part_of, source_in}

@@ -1,7 +1,7 @@
 use Rattle.std.proofs.Common.{◌≡◌, IfOk, ap, subst}
-use Rattle.c_core.specs.Core as core
-use Rattle.c_core.specs.View.{stmt_of}
-use Rattle.c_core.proofs.Views.{stmts_of_row-list}
+use Rattle.core_tree.specs.Core as core
+use Rattle.core_tree.specs.View.{stmt_of}
+use Rattle.core_tree.proofs.Views.{stmts_of_row-list}
 use Rattle.c_statements.proofs.make.block.Goals as goal
 
 pub returns : goal.returns

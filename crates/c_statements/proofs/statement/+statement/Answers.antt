@@ -10,7 +10,7 @@ use Rattle.c_programs.specs.Statements.{after_start, after_parts}
 use Rattle.c_names.specs.Table.{known_of}
 use Rattle.c_locals.proofs.Numbering.{after_none, block_numbers, for_numbers}
 use Rattle.c_programs.proofs.Within.{closed_parts, closed_start}
-use Rattle.c_core.specs.View as core_view
+use Rattle.core_tree.specs.View as core_view
 use Rattle.c_operators.specs.Context.{context_in}
 use Rattle.c_statements.specs.Statements.{elaborated}
 use Rattle.c_operators.specs.Views.{frame_in, source_in}

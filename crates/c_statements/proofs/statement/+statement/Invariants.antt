@@ -5,7 +5,7 @@ use Rattle.c_locals.specs.Addresses.{past_parts}
 use Rattle.c_numbers.specs.NumberTables.{numbered_of}
 use Rattle.c_programs.specs.Statements.{after_parts}
 use Rattle.c_names.specs.Table.{known_of}
-use Rattle.c_core.specs.View.{stmt_of}
+use Rattle.core_tree.specs.View.{stmt_of}
 use Rattle.c_operators.specs.Context.{context_in}
 use Rattle.c_statements.specs.Statements.{all_elaborated}
 use Rattle.c_operators.specs.Views.{frame_in, source_in}

@@ -1,6 +1,6 @@
 use Rattle.std.proofs.Common.{◌≡◌, IfOk, subst}
 use Rattle.c_tree.specs.View as tree
-use Rattle.c_core.specs.View.{exp_of}
+use Rattle.core_tree.specs.View.{exp_of}
 use Rattle.c_operators.specs.Context.{Context}
 use Rattle.c_values.specs.Expressions.{value_of}
 use Rattle.c_statements.proofs.statement.value_at.Goals as goal

@@ -6,7 +6,7 @@ use Rattle.c_tree.proofs.Views.{exps_of_row-list}
 use Rattle.c_types.specs.Shown.{shown_standing, shown_target, shown_wants}
 use Rattle.c_types.specs.Standing.{no_target}
 use Rattle.c_types.specs.Standing as standings
-use Rattle.c_core.specs.View.{exp_of}
+use Rattle.core_tree.specs.View.{exp_of}
 use Rattle.c_operators.specs.Denoted.{Part, denoted_value, part_by}
 use Rattle.c_operators.specs.Operators.{stepped_in}
 use Rattle.c_operators.specs.Views.{denoted_of, context_of, maybe_word, part_of, places_of, source_in}

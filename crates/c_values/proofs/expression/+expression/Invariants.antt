@@ -5,7 +5,7 @@ use Rattle.c_tree.specs.Tree.{listed}
 use Rattle.c_tree.specs.View as tree
 use Rattle.c_types.specs.Shown.{shown_standing, shown_wants}
 use Rattle.c_types.specs.Standing.{fit_wanted}
-use Rattle.c_core.specs.View.{exp_of}
+use Rattle.core_tree.specs.View.{exp_of}
 use Rattle.c_operators.specs.Views.{context_of, places_of}
 use Rattle.c_values.specs.Expressions as spec
 use Rattle.c_values.proofs.expression.+expression.Given as goal

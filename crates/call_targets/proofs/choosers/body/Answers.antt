@@ -1,6 +1,6 @@
 use Rattle.std.proofs.Common.{◌∙◌, ap}
-use Rattle.c_core.specs.Core.{block, listed_statements}
-use Rattle.c_core.proofs.Views.{stmts_of_row-list}
+use Rattle.core_tree.specs.Core.{block, listed_statements}
+use Rattle.core_tree.proofs.Views.{stmts_of_row-list}
 use Rattle.call_targets.proofs.choosers.body.Goals as goal
 
 pub returns : goal.returns

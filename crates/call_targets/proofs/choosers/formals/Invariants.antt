@@ -1,5 +1,5 @@
 use Rattle.std.proofs.Common.{◌≡◌, ◌++◌, drop, map}
-use Rattle.c_core.specs.View.{exp_of}
+use Rattle.core_tree.specs.View.{exp_of}
 use Rattle.call_targets.specs.Resolved.{formals_from}
 use Rattle.call_targets.proofs.choosers.formals.Given as goal
 

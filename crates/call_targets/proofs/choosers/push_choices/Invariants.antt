@@ -1,5 +1,5 @@
 use Rattle.std.proofs.Common.{◌≡◌, ◌++◌, drop, map}
-use Rattle.c_core.specs.View.{stmt_of, pointer_of}
+use Rattle.core_tree.specs.View.{stmt_of, pointer_of}
 use Rattle.call_targets.specs.Resolved.{choice}
 use Rattle.call_targets.proofs.choosers.push_choices.Given as goal
 

@@ -1,6 +1,6 @@
 use Rattle.std.proofs.Common.{◌∙◌, ap}
-use Rattle.c_core.specs.Core.{call, listed}
-use Rattle.c_core.proofs.Views.{exps_of_row-list}
+use Rattle.core_tree.specs.Core.{call, listed}
+use Rattle.core_tree.proofs.Views.{exps_of_row-list}
 use Rattle.call_targets.proofs.choosers.target_called.Goals as goal
 
 pub returns : goal.returns

@@ -1,5 +1,5 @@
 use Rattle.std.proofs.Common.{◌≡◌, ◌++◌, drop, map}
-use Rattle.c_core.specs.View.{function_of, pointer_of}
+use Rattle.core_tree.specs.View.{function_of, pointer_of}
 use Rattle.call_targets.specs.Resolved.{choosers}
 use Rattle.call_targets.proofs.program.push_choosers.Given as goal
 

@@ -1,4 +1,4 @@
-use Rattle.runs.specs.Same.{same_object}
+use Rattle.run_theory.specs.Same.{same_object}
 use Rattle.chain_report.specs.Past.{nothing}
 use Rattle.chain_report.proofs.Objects.{object_eq, object_alike, put}
 use Rattle.chain_report.proofs.kept.keep.Goals as goal

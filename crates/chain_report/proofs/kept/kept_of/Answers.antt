@@ -1,7 +1,7 @@
 use Rattle.std.proofs.Common.{ap, ◌∙◌}
 use Rattle.std.specs.Map.{lookup}
 use Rattle.std.specs.Option.{unwrap_or}
-use Rattle.runs.specs.Same.{same_object}
+use Rattle.run_theory.specs.Same.{same_object}
 use Rattle.chain_report.specs.Past.{nothing}
 use Rattle.chain_report.proofs.Objects.{object_eq, object_alike, lookup_same, looked_up}
 use Rattle.chain_report.proofs.kept.kept_of.Goals as goal

@@ -1,8 +1,8 @@
 use Rattle.std.proofs.Common.{sym, ◌∙◌}
-use Rattle.source_runs.specs.WalkEvents.{labels_of_walk}
-use Rattle.source_runs.proofs.WalkRuns.{walk_is_run}
+use Rattle.lowering_simulation.specs.WalkEvents.{labels_of_walk}
+use Rattle.lowering_simulation.proofs.WalkRuns.{walk_is_run}
 use Rattle.lock_sound.proofs.Running.{weakened_runs}
-use Rattle.access_order.proofs.Ordering.{ordered}
+use Rattle.happens_before.proofs.Ordering.{ordered}
 use Rattle.chain_report.proofs.Exists.{chain_exists}
 use Rattle.chain_report.proofs.laws.law_conflict_has_chain.Goals as goal
 

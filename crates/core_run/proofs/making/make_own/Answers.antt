@@ -1,6 +1,6 @@
 use Rattle.std.proofs.Common.{◌≡◌, true, false, sym, ◌∙◌}
 use Rattle.sync_objects.specs.Names.{name_of}
-use Rattle.runs.specs.Same.{same_entry}
+use Rattle.run_theory.specs.Same.{same_entry}
 use Rattle.core_run.specs.Machine.{entry_of}
 use Rattle.core_run.proofs.Performed.{not_operating, other_operation, this_operation}
 use Rattle.core_run.proofs.making.make_own.Goals as goal

@@ -4,7 +4,7 @@ use Rattle.sync_objects.specs.Names.{name_of}
 use Rattle.sync_objects.specs.declared.object.ObjId.TheVariants as object
 use Rattle.sync_objects.specs.declared.operation.Op.TheVariants as op
 use Rattle.flow_code.specs.Next.{stopped}
-use Rattle.runs.specs.Same.{same_entry}
+use Rattle.run_theory.specs.Same.{same_entry}
 use Rattle.core_run.specs.Machine.{entry_of, may_stop}
 use Rattle.core_run.specs.Words.{cells_of, place_of}
 use Rattle.core_run.specs.Parts.{LacksWord, HasWord}

@@ -4,7 +4,7 @@ use Rattle.std.specs.Prelude.{slice_get, slice_set}
 use mir.Syntax.{w64}
 use Rattle.sync_objects.specs.Advance.{advanced, Advances}
 use Rattle.flow_code.specs.Next.{stepped}
-use Rattle.thread_flow.specs.Pieces.{piece_next}
+use Rattle.thread_interpreter.specs.Pieces.{piece_next}
 use Rattle.core_run.specs.Words.{has_object, place_of, cells_of}
 use Rattle.core_run.proofs.Performed.{askable_next, range_next, allowed, silent, prints}
 use Rattle.core_run.proofs.parts.perform.Goals as goal

@@ -2,7 +2,7 @@ use Rattle.std.proofs.Common.{◌≡◌, length}
 use Rattle.core_run.specs.Machine.{Told}
 use Rattle.core_run.specs.Parts.{KeepsObjects}
 use Rattle.core_run.specs.Shown.{RunAll, IsShown}
-use Rattle.runs.specs.Steps.{State}
+use Rattle.run_theory.specs.Steps.{State}
 use Rattle.core_run.proofs.Leaving.{Leaves}
 use Rattle.core_run.proofs.walker.own_steps_in.Given as goal
 

@@ -1,4 +1,4 @@
-use Rattle.source_runs.proofs.Parts.{parts}
+use Rattle.lowering_simulation.proofs.Parts.{parts}
 use Rattle.erasure.specs.Erased.{IsAnywhere}
 use Rattle.erasure.proofs.laws.law_thread_events.Goals as goal
 

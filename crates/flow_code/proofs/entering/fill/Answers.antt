@@ -1,5 +1,5 @@
 use Rattle.std.proofs.Common.{arith}
-use Rattle.abstract_machine.specs.Registers.{words_of}
+use Rattle.word_semantics.specs.Registers.{words_of}
 use Rattle.flow_code.proofs.Filling.{filled_more}
 use Rattle.flow_code.proofs.entering.fill.Goals as goal
 

@@ -1,6 +1,6 @@
 use Rattle.std.proofs.Common.{◌≡◌, ◌≤◌, vec_len, vec_capacity}
 use Rattle.flow_code.specs.Threads.{with_arguments}
-use Rattle.abstract_machine.specs.Registers.{words_of}
+use Rattle.word_semantics.specs.Registers.{words_of}
 use Rattle.flow_code.proofs.entering.fill.Given as goal
 
 abbrev pub invariant-loop-k : goal.invariant-loop-k

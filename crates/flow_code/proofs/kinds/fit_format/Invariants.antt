@@ -1,5 +1,5 @@
 use Rattle.std.proofs.Common.{◌≡◌, length}
-use Rattle.abstract_machine.specs.Kinds as kinds
+use Rattle.word_semantics.specs.Kinds as kinds
 use Rattle.flow_code.specs.Kinds as spec
 use Rattle.flow_code.proofs.kinds.fit_format.Given as goal
 

@@ -1,10 +1,10 @@
 use Rattle.std.proofs.Common.{◌+◌, ◌++◌, ap, ◌∙◌, arith}
 use Rattle.std.proofs.lemmas.Result.{on_ok_weaker, IfOk-weaker}
 use Rattle.std.proofs.lemmas.Grind.{common_steps}
-use Rattle.c_core.specs.View.{exp_of}
-use Rattle.c_core.proofs.Views.{exps_of_row-list}
-use Rattle.c_core.specs.Meaning.{is_pointer}
-use Rattle.lower_parts.specs.Kept.{kept}
+use Rattle.core_tree.specs.View.{exp_of}
+use Rattle.core_tree.proofs.Views.{exps_of_row-list}
+use Rattle.core_tree.specs.Meaning.{is_pointer}
+use Rattle.lowering_parts.specs.Kept.{kept}
 use Rattle.flow_lower.specs.Lowered.{exp_kinds}
 use Rattle.flow_lower.proofs.Joins.{six, choice_code, choice_registers}
 use Rattle.flow_lower.proofs.expression.+exp_code.Goals as goal

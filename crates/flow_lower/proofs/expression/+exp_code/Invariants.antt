@@ -1,7 +1,7 @@
 use Rattle.std.proofs.Common.{◌≡◌, ◌+◌, ◌++◌, length, drop, map}
-use Rattle.c_core.specs.Core.{listed}
-use Rattle.c_core.specs.View.{exp_of}
-use Rattle.lower_parts.specs.Kept.{all_kept}
+use Rattle.core_tree.specs.Core.{listed}
+use Rattle.core_tree.specs.View.{exp_of}
+use Rattle.lowering_parts.specs.Kept.{all_kept}
 use Rattle.flow_lower.specs.Lowered.{exps_kinds, exps_size, exps_code, value_registers}
 use Rattle.flow_lower.proofs.expression.+exp_code.Given as goal
 

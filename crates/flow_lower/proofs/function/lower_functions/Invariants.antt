@@ -1,5 +1,5 @@
 use Rattle.std.proofs.Common.{◌≡◌, ◌++◌, drop, map}
-use Rattle.c_core.specs.View.{function_of}
+use Rattle.core_tree.specs.View.{function_of}
 use Rattle.flow_lower.specs.Lowered.{function_code}
 use Rattle.flow_lower.proofs.function.lower_functions.Given as goal
 

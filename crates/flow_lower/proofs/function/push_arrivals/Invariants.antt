@@ -1,5 +1,5 @@
 use Rattle.std.proofs.Common.{◌≡◌, ◌++◌, drop, map}
-use Rattle.c_core.specs.View.{arrival_of}
+use Rattle.core_tree.specs.View.{arrival_of}
 use Rattle.flow_lower.specs.Lowered.{arrivals_code}
 use Rattle.flow_lower.proofs.function.push_arrivals.Given as goal
 

@@ -1,6 +1,6 @@
 use Rattle.std.proofs.Common.{arith}
 use Rattle.std.proofs.lemmas.Grind.{common_steps}
-use Rattle.c_core.proofs.Views.{stmts_of_row-list}
+use Rattle.core_tree.proofs.Views.{stmts_of_row-list}
 use Rattle.flow_lower.proofs.statement.+statement_code.Goals as goal
 
 pub push_statement-returns-in-Block-clause-register : goal.push_statement-returns-in-Block-clause-register

@@ -1,7 +1,7 @@
 use Rattle.std.proofs.Common.{◌≡◌, ◌+◌, ◌++◌, drop, map, length}
-use Rattle.c_core.specs.Core.{listed_statements}
-use Rattle.c_core.specs.View.{stmt_of}
-use Rattle.lower_parts.specs.Kept.{statements_kept}
+use Rattle.core_tree.specs.Core.{listed_statements}
+use Rattle.core_tree.specs.View.{stmt_of}
+use Rattle.lowering_parts.specs.Kept.{statements_kept}
 use Rattle.flow_lower.specs.Lowered.{statements_kinds, statements_size, statements_code}
 use Rattle.flow_lower.proofs.statement.+statement_code.Given as goal
 

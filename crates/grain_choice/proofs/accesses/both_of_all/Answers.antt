@@ -3,7 +3,7 @@ use Rattle.std.specs.Prelude.{◌||◌, slice_index_or}
 use Rattle.std.proofs.lemmas.List.{take_all}
 use Rattle.std.proofs.lemmas.List.Folds.{list_any_more}
 use Rattle.facts.specs.declared.pair.Pair.{Pair}
-use Rattle.weak_facts.specs.Grains.{is_racy, stands_in}
+use Rattle.weak_lock_facts.specs.Grains.{is_racy, stands_in}
 use Rattle.grain_choice.proofs.accesses.both_of_all.Goals as goal
 
 abbrev blank : Pair

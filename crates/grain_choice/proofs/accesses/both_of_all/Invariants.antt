@@ -1,6 +1,6 @@
 use Rattle.std.proofs.Common.{◌≡◌, take}
 use Rattle.facts.specs.declared.pair.AccessAt.{AccessAt}
-use Rattle.weak_facts.specs.Grains.{is_racy}
+use Rattle.weak_lock_facts.specs.Grains.{is_racy}
 use Rattle.grain_choice.specs.Listed.{is_listed, Agree}
 use Rattle.grain_choice.proofs.accesses.both_of_all.Given as goal
 

@@ -1,5 +1,5 @@
 use Rattle.std.proofs.Common.{◌∙◌, sym}
-use Rattle.weak_facts.specs.Grains.{instrs_of}
+use Rattle.weak_lock_facts.specs.Grains.{instrs_of}
 use Rattle.grain_choice.proofs.Besides.{there, shared, alone}
 use Rattle.grain_choice.proofs.blocks.block_grain.Goals as goal
 

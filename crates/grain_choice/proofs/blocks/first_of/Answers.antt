@@ -1,6 +1,6 @@
 use Rattle.std.proofs.Common.{◌≡◌, ◌∙◌, sym, arith}
 use Rattle.std.proofs.lemmas.Option.{same_Some}
-use Rattle.weak_facts.specs.Grains.{block_at, instrs_of}
+use Rattle.weak_lock_facts.specs.Grains.{block_at, instrs_of}
 use Rattle.grain_choice.proofs.Besides.{block_le}
 use Rattle.grain_choice.proofs.Firsts.{first_in}
 use Rattle.grain_choice.proofs.blocks.first_of.Goals as goal

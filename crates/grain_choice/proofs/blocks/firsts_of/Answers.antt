@@ -1,7 +1,7 @@
 use Rattle.std.proofs.Common.{◌≡◌, ◌∙◌, ℕ, ◌<◌, sym, ap, subst, arith, Some, List, [], ◌∷◌, length, length-append}
 use Rattle.std.specs.Prelude.{slice_index_or}
 use Rattle.std.proofs.lemmas.Option.{slice_get-get_or}
-use Rattle.weak_facts.specs.Grains.{block_at}
+use Rattle.weak_lock_facts.specs.Grains.{block_at}
 use Rattle.grain_choice.proofs.Firsts.{first_next, before_next, each_pushed}
 use Rattle.grain_choice.proofs.blocks.firsts_of.Goals as goal
 

@@ -1,6 +1,6 @@
 use Rattle.std.proofs.Common.{◌≡◌, ◌<◌, ℕ, length}
 use Rattle.std.specs.Prelude.{slice_index_or}
-use Rattle.weak_facts.specs.Grains.{block_at}
+use Rattle.weak_lock_facts.specs.Grains.{block_at}
 use Rattle.grain_choice.proofs.Firsts.{block_before}
 use Rattle.grain_choice.proofs.blocks.firsts_of.Given as goal
 

@@ -1,8 +1,8 @@
 use Rattle.std.proofs.Common.{◌∙◌, ap, arith, List}
 use Rattle.std.specs.Prelude.{pos, ◌∷◌, [], slice_index_or}
 use Rattle.std.proofs.lemmas.List.{take_all}
-use Rattle.weak_facts.specs.declared.range.Range.{Range}
-use Rattle.weak_facts.specs.Grains.{loop_of}
+use Rattle.weak_lock_facts.specs.declared.range.Range.{Range}
+use Rattle.weak_lock_facts.specs.Grains.{loop_of}
 use Rattle.grain_choice.specs.Loops.{first_of}
 use Rattle.grain_choice.proofs.Putting.{loop_of-more}
 use Rattle.grain_choice.proofs.loops.loops.Goals as goal

@@ -1,6 +1,6 @@
 use Rattle.std.proofs.Common.{◌≡◌, take}
 use Rattle.facts.specs.declared.pair.AccessAt.{AccessAt}
-use Rattle.weak_facts.specs.Grains.{loop_of}
+use Rattle.weak_lock_facts.specs.Grains.{loop_of}
 use Rattle.grain_choice.specs.Loops.{loop_at}
 use Rattle.grain_choice.proofs.loops.loops.Given as goal
 

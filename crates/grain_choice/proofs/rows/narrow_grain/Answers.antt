@@ -1,6 +1,6 @@
 use Rattle.std.proofs.Common.{◌∙◌, sym, ap, List}
 use Rattle.facts.specs.declared.pair.AccessAt.{AccessAt}
-use Rattle.weak_facts.specs.Grains.{instrs_of}
+use Rattle.weak_lock_facts.specs.Grains.{instrs_of}
 use Rattle.grain_choice.specs.Chosen.{may_share}
 use Rattle.grain_choice.specs.Listed.{ascend}
 use Rattle.grain_choice.proofs.Ascents.{ascend_filter}

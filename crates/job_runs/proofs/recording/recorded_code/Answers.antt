@@ -1,9 +1,9 @@
 use Rattle.std.proofs.Common.{refl, Ok}
 use Rattle.std.proofs.lemmas.Result.{err_from_is_err_and}
-use Rattle.answers.specs.Jobs.{record_told}
-use Rattle.answers.specs.declared.answer.Part.TheVariants as part
-use Rattle.outcomes.proofs.InRow.{gives_stop}
-use Rattle.outcomes.specs.Steps.{Comes, IsInput}
+use Rattle.command_line.specs.Jobs.{record_told}
+use Rattle.command_line.specs.declared.answer.Part.TheVariants as part
+use Rattle.job_outcomes.proofs.InRow.{gives_stop}
+use Rattle.job_outcomes.specs.Steps.{Comes, IsInput}
 use Rattle.job_runs.specs.Recordings.{IsRecorded}
 use Rattle.job_runs.proofs.Recorded.{crew_gives, crew_stops, input_stops, no_crew}
 use Rattle.job_runs.proofs.Worked.{all_is_idle, crew_is_idle, ran, told_of_run}

@@ -1,4 +1,4 @@
-use Rattle.answers.specs.Jobs.{record_told}
+use Rattle.command_line.specs.Jobs.{record_told}
 use Rattle.job_runs.proofs.Recorded.{logged_of, setup_within}
 use Rattle.job_runs.proofs.recording.recorded_on.Goals as goal
 

@@ -1,8 +1,8 @@
 use Rattle.std.proofs.Common.{Ok, Err, subst}
 use Rattle.std.proofs.lemmas.Result.{err_from_is_err_and}
-use Rattle.answers.specs.declared.answer.Part.TheVariants as part
+use Rattle.command_line.specs.declared.answer.Part.TheVariants as part
 use Rattle.chain_report.specs.declared.point.Point.{Point}
-use Rattle.outcomes.specs.Steps.{Comes, Finds, Gives, IsFile}
+use Rattle.job_outcomes.specs.Steps.{Comes, Finds, Gives, IsFile}
 use Rattle.jobs.specs.Chainings.{OrdersLog, point_of}
 use Rattle.jobs.specs.Sources.{IsTree}
 use Rattle.job_runs.specs.Logs.{IsLogIn}

@@ -1,6 +1,6 @@
 use Rattle.core_run.specs.Histories.{entries_in, lists_of}
-use Rattle.runs.specs.Merge.{written_merge}
-use Rattle.weak_facts.specs.Ranges.{ranges_of}
+use Rattle.run_theory.specs.Merge.{written_merge}
+use Rattle.weak_lock_facts.specs.Ranges.{ranges_of}
 use Rattle.jobs.proofs.Made.{runs_as_source}
 use Rattle.jobs.proofs.Replayed.{walks_as_source}
 use Rattle.jobs.proofs.making.made_code.Goals as goal

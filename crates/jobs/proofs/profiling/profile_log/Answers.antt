@@ -1,7 +1,7 @@
 use Rattle.std.proofs.Common.{Ok, Err, subst}
 use Rattle.std.proofs.lemmas.Result.{err_from_is_err_and}
-use Rattle.answers.specs.declared.answer.Part.TheVariants as part
-use Rattle.outcomes.specs.Steps.{Finds, IsFile}
+use Rattle.command_line.specs.declared.answer.Part.TheVariants as part
+use Rattle.job_outcomes.specs.Steps.{Finds, IsFile}
 use Rattle.jobs.specs.Profilings.{ShowsLog}
 use Rattle.job_runs.specs.Logs.{IsLogIn}
 use Rattle.jobs.proofs.OfLog.{log_gives, log_stops}

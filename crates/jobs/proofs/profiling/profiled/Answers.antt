@@ -1,6 +1,6 @@
 use Rattle.std.proofs.Common.{sym, subst, length, ◌≤◌, Ok, Err}
 use Rattle.sync_objects.specs.Setup.{IsWithinLimits}
-use Rattle.weak_facts.specs.Ranges.{ranges_of}
+use Rattle.weak_lock_facts.specs.Ranges.{ranges_of}
 use Rattle.walk_profiles.specs.Profiling.{ShowsProfile}
 use Rattle.jobs.specs.Profilings.{ShowsLog}
 use Rattle.jobs.specs.Sources.{Compiles}

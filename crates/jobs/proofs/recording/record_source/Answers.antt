@@ -1,5 +1,5 @@
 use Rattle.std.proofs.Common.{subst, Ok}
-use Rattle.answers.specs.Jobs.{record_told}
+use Rattle.command_line.specs.Jobs.{record_told}
 use Rattle.job_profiles.specs.Profiles.{IsProfile}
 use Rattle.jobs.proofs.Recorded.{record_gives}
 use Rattle.jobs.proofs.recording.record_source.Goals as goal

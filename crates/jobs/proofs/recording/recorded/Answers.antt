@@ -1,4 +1,4 @@
-use Rattle.answers.specs.Jobs.{record_told}
+use Rattle.command_line.specs.Jobs.{record_told}
 use Rattle.jobs.proofs.Found.{not_compiled}
 use Rattle.std.proofs.Common.{refl, Err}
 use Rattle.jobs.proofs.Recorded.{recorded_gives, runs_nothing}

@@ -1,6 +1,6 @@
 use Rattle.std.proofs.Common.{refl, sym, subst, length, ◌≤◌, Ok, Err}
 use Rattle.sync_objects.specs.Setup.{IsWithinLimits}
-use Rattle.weak_facts.specs.Ranges.{ranges_of}
+use Rattle.weak_lock_facts.specs.Ranges.{ranges_of}
 use Rattle.jobs.specs.Sources.{Compiles}
 use Rattle.jobs.proofs.Found.{not_compiled, compile_is_pure, same_compile}
 use Rattle.jobs.proofs.Replayed.{may_refuse, refused_before, replayed_gives, replayed_is_idle, walks_as_source}

@@ -1,11 +1,11 @@
 use Rattle.std.proofs.Common.{inl, inr, refl, sym, subst, Some}
 use Rattle.std.specs.Prelude.{IfErr}
-use Rattle.answers.specs.Jobs.{told}
-use Rattle.answers.specs.declared.job.Job.{Job}
+use Rattle.command_line.specs.Jobs.{told}
+use Rattle.command_line.specs.declared.job.Job.{Job}
 use Rattle.jobs.specs.Asks.{AsksCrew, AsksInput}
 use Rattle.jobs.specs.Jobs.{IsOutcome, PutsBefore, UsesShelf}
 use Rattle.job_runs.specs.Works.{work_of}
-use Rattle.outcomes.specs.Endings.{ComesTo, MayStop}
+use Rattle.job_outcomes.specs.Endings.{ComesTo, MayStop}
 use Rattle.job_runs.proofs.Worked.{all_is_idle}
 use Rattle.jobs.proofs.Asked.{none_read, stops_by}
 use Rattle.jobs.proofs.Worked.{at_once, with_work}

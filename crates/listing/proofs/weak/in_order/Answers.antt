@@ -1,6 +1,6 @@
 use Rattle.std.proofs.Common.{◌≡◌, ◌∙◌, ap, List, rules}
 use Rattle.std.proofs.lemmas.Fn.{always_returns_same}
-use Rattle.weak_facts.specs.declared.grain.Grained.{Grained}
+use Rattle.weak_lock_facts.specs.declared.grain.Grained.{Grained}
 use Rattle.listing.specs.Lines.{shown}
 use Rattle.listing.specs.Sorting.{sorted_by}
 use Rattle.listing.specs.WeakText.{access_before}

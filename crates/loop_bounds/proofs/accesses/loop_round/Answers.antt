@@ -1,6 +1,6 @@
 use Rattle.std.proofs.Common.{◌≡◌, Some, None, sym, ap, ◌∙◌, arith}
 use Rattle.std.specs.Option.{option_copied}
-use Rattle.weak_facts.specs.Ranges.{mark_before}
+use Rattle.weak_lock_facts.specs.Ranges.{mark_before}
 use Rattle.loop_bounds.specs.Tables.{first_at}
 use Rattle.loop_bounds.proofs.Innermost.{round_at}
 use Rattle.loop_bounds.proofs.FirstLoops.{no_round, no_head, head_round}

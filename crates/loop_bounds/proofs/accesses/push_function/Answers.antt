@@ -3,9 +3,9 @@ use Rattle.std.specs.Prelude.{OnOk}
 use Rattle.flow_code.specs.declared.act.Instr.{Instr}
 use Rattle.flow_code.specs.declared.code.LoopInfo.{LoopInfo}
 use Rattle.facts.specs.Blocks.{AreAmounts}
-use Rattle.weak_facts.specs.declared.range.Range.{Range}
-use Rattle.weak_facts.specs.Loops.{counted_of}
-use Rattle.weak_facts.specs.Ranges.{ranges_in}
+use Rattle.weak_lock_facts.specs.declared.range.Range.{Range}
+use Rattle.weak_lock_facts.specs.Loops.{counted_of}
+use Rattle.weak_lock_facts.specs.Ranges.{ranges_in}
 use Rattle.loop_bounds.specs.Tables.{AreCalm, calm_loops}
 use Rattle.loop_bounds.proofs.Innermost.{calm_all, ranges_calm}
 use Rattle.loop_bounds.proofs.accesses.push_function.Goals as goal

@@ -1,5 +1,5 @@
 use Rattle.std.proofs.Common.{◌≡◌, ◌++◌, drop}
-use Rattle.weak_facts.specs.Ranges as spec
+use Rattle.weak_lock_facts.specs.Ranges as spec
 use Rattle.loop_bounds.proofs.accesses.ranges.Given as goal
 
 -- what is pushed and the rest make the whole

@@ -1,6 +1,6 @@
 use Rattle.std.proofs.Common.{◌≡◌, ◌++◌, drop}
 use Rattle.std.specs.List.{filter}
-use Rattle.weak_facts.specs.Loops as spec
+use Rattle.weak_lock_facts.specs.Loops as spec
 use Rattle.loop_bounds.proofs.loops.counted_of.Given as goal
 
 -- what is found and the rest make the whole

@@ -1,5 +1,5 @@
 use Rattle.std.proofs.Common.{◌≡◌, ◌++◌, drop, map}
-use Rattle.weak_facts.specs.Loops as spec
+use Rattle.weak_lock_facts.specs.Loops as spec
 use Rattle.loop_bounds.proofs.loops.push_loops.Given as goal
 
 -- what is pushed and the rest make the whole

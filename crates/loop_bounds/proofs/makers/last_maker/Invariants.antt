@@ -1,5 +1,5 @@
 use Rattle.std.proofs.Common.{◌≡◌, ◌≤◌}
-use Rattle.weak_facts.specs.Ranges as spec
+use Rattle.weak_lock_facts.specs.Ranges as spec
 use Rattle.loop_bounds.proofs.makers.last_maker.Given as goal
 
 abbrev pub invariant-loop-place : goal.invariant-loop-place

@@ -1,7 +1,7 @@
 use Rattle.std.proofs.Common.{◌≡◌, ◌<◌, ◌≤◌, ◌∙◌, ⊎_elim, refl, sym, ap, arith, Some, None, true, false}
 use Rattle.std.proofs.lemmas.Bool.{cases_lt, lt-ltb, le-ltb}
 use Rattle.loop_bounds.specs.Tables.{sole_maker, the_one}
-use Rattle.weak_facts.specs.Loops.{is_entered_at}
+use Rattle.weak_lock_facts.specs.Loops.{is_entered_at}
 use Rattle.loop_bounds.proofs.Soles.{only_none, only_past, only_before}
 use Rattle.loop_bounds.proofs.makers.only_maker.Goals.{else-counted-maker-via-then-counted-maker+then-maker-before+else-is_entered_at, else-counted-maker-via-then-counted-maker+else-maker-before, else-counted-maker-via-else-counted-maker}
 use Rattle.loop_bounds.proofs.makers.only_maker.Goals as goal

@@ -2,7 +2,7 @@ use Rattle.std.proofs.Common.{◌≡◌, ◌<◌, ◌∷◌, [], ℕ, List, Opti
 use Rattle.std.specs.Prelude.{nat_eq, slice_get, slice_index_or}
 use Rattle.std.specs.HashMap.{get}
 use Rattle.std.proofs.lemmas.Option.{slice_get-get_or}
-use Rattle.weak_facts.specs.Ranges.{maker_at}
+use Rattle.weak_lock_facts.specs.Ranges.{maker_at}
 use Rattle.facts.proofs.Carrying.{start_is}
 use Rattle.loop_bounds.proofs.Placed.{places_entered, places_next, operands_pushed}
 use Rattle.loop_bounds.proofs.operands.operand_makers.Goals as goal

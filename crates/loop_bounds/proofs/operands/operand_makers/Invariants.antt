@@ -2,8 +2,8 @@ use Rattle.std.proofs.Common.{◌≡◌, ◌<◌, ℕ, length, Some, None}
 use Rattle.std.specs.Prelude.{if◌then◌else◌, nat_eq, slice_get}
 use Rattle.std.specs.HashMap.{get}
 use Rattle.facts.specs.Blocks.{begins_block}
-use Rattle.weak_facts.specs.Loops.{nth}
-use Rattle.weak_facts.specs.Ranges.{maker_at, moved_of}
+use Rattle.weak_lock_facts.specs.Loops.{nth}
+use Rattle.weak_lock_facts.specs.Ranges.{maker_at, moved_of}
 use Rattle.loop_bounds.proofs.operands.operand_makers.Given as goal
 
 abbrev pub invariant-loop-at : goal.invariant-loop-at

@@ -1,6 +1,6 @@
 use Rattle.std.proofs.Common.{◌≡◌, ◌-◌, None, refl, sym, ◌∙◌, arith, false}
 use Rattle.std.specs.Prelude.{slice_index_or}
-use Rattle.weak_facts.specs.Ranges.{begins_round}
+use Rattle.weak_lock_facts.specs.Ranges.{begins_round}
 use Rattle.loop_bounds.specs.Tables.{following}
 use Rattle.loop_bounds.proofs.Innermost.{next_front, search_on}
 use Rattle.loop_bounds.proofs.rounds.round_of.Goals as goal

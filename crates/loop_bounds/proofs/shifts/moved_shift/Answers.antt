@@ -1,6 +1,6 @@
 use Rattle.std.proofs.Common.{◌≡◌, ℕ, Option, Some, sym, ap, ◌∙◌}
-use Rattle.weak_facts.specs.Loops.{nth}
-use Rattle.weak_facts.specs.Ranges.{moved_of}
+use Rattle.weak_lock_facts.specs.Loops.{nth}
+use Rattle.weak_lock_facts.specs.Ranges.{moved_of}
 use Rattle.loop_bounds.proofs.Placed.{operand_at, maker_fits, not_moved, moved_by}
 use Rattle.loop_bounds.proofs.shifts.moved_shift.Goals as goal
 

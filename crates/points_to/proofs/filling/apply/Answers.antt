@@ -1,5 +1,5 @@
 use Rattle.std.proofs.Common.{◌≡◌, sym, subst, arith, length, rules, to_z, of_z, w64, pos, ◌*ℤ◌}
-use Rattle.abstract_machine.specs.Pointers.{directed}
+use Rattle.word_semantics.specs.Pointers.{directed}
 use Rattle.facts.specs.PointsTo.{given, included, shifted, strided, loaded, stored, place_on, MayPoint}
 use Rattle.points_to.specs.Nodes.{place_from, Has}
 use Rattle.points_to.specs.Filling.{Adds, Meets, ForAll, number_on}

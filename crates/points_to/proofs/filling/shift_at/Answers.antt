@@ -1,5 +1,5 @@
 use Rattle.std.proofs.Common.{◌≡◌, ◌∙◌, ap, sym, subst, length, pos, ◌*ℤ◌, rules, to_z, of_z, w64, ◌≤◌, ◌/◌}
-use Rattle.abstract_machine.specs.Pointers.{directed}
+use Rattle.word_semantics.specs.Pointers.{directed}
 use Rattle.facts.specs.PointsTo.{place_on, element_of}
 use Rattle.points_to.specs.Nodes.{Has, place_from, number_of}
 use Rattle.points_to.specs.Filling.{number_on, Adds}

@@ -1,7 +1,7 @@
 use Rattle.std.proofs.Common.{◌∙◌, ap, subst, sym, pos, ◌*ℤ◌, ◌≤◌, ◌^◌, w64}
 use Rattle.std.specs.Prelude.{unsigned_abs}
 use Rattle.std.proofs.lemmas.Int.{to_z-of_z}
-use Rattle.abstract_machine.specs.Pointers.{directed}
+use Rattle.word_semantics.specs.Pointers.{directed}
 use Rattle.points_to.proofs.Products.{product_fits, product_is, product_small}
 use Rattle.points_to.proofs.nodes.cells_in.Goals as goal
 

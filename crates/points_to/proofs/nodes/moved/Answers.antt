@@ -1,5 +1,5 @@
 use Rattle.std.proofs.Common.{◌≡◌, ◌∙◌, ap, rules, to_z, of_z, w64, pos, ◌*ℤ◌}
-use Rattle.abstract_machine.specs.Pointers.{directed}
+use Rattle.word_semantics.specs.Pointers.{directed}
 use Rattle.std.specs.Int.{w128}
 use Rattle.rr_base.specs.declared.layout.Place.{Place}
 use Rattle.facts.specs.PointsTo.{class_on}

@@ -1,7 +1,7 @@
 use Rattle.lock_sound.proofs.Running.{weakened_constants_fit, weakened_is_valid}
-use Rattle.next_cells.proofs.Allowed.{refused_none}
-use Rattle.next_cells.proofs.Found.{cell_there, object_there}
-use Rattle.next_cells.proofs.Settled.{code_sets, points_at_rest}
+use Rattle.access_cells.proofs.Allowed.{refused_none}
+use Rattle.access_cells.proofs.Found.{cell_there, object_there}
+use Rattle.access_cells.proofs.Settled.{code_sets, points_at_rest}
 use Rattle.race_free.proofs.laws.law_cells.Goals as goal
 
 pub returns-clause-cells : goal.returns-clause-cells

@@ -2,7 +2,7 @@ use Rattle.std.proofs.Common.{◌≡◌, ◌≤◌, List, length, sym, ap, subst
 use Rattle.sync_objects.specs.declared.entry.Entry.{Entry}
 use Rattle.sync_objects.specs.declared.entry.Noted.{Noted}
 use Rattle.core_run.specs.Histories.{entries_in}
-use Rattle.runs.specs.Merge.{total_length, written_merge}
+use Rattle.run_theory.specs.Merge.{total_length, written_merge}
 use Rattle.recorder.proofs.Finishing.{records_finished, walked, few_written}
 use Rattle.recorder.proofs.threads.log_of.Goals as goal
 

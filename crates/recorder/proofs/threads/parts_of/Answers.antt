@@ -1,7 +1,7 @@
 use Rattle.std.proofs.Common.{◌≡◌, length, sym, ap, ◌∙◌, arith, rules, true}
 use Rattle.std.specs.Vec.Iter.{into_iter_items}
 use Rattle.thread_step.specs.Steps.{Stepping}
-use Rattle.walk_pieces.specs.Remains.{remains_in}
+use Rattle.run_walk.specs.Remains.{remains_in}
 use Rattle.weak_turns.specs.Carrying.{run_has_ended}
 use Rattle.recorder.proofs.Dealing.{takes_more, all_taken}
 use Rattle.recorder.proofs.threads.parts_of.Goals as goal

@@ -1,8 +1,8 @@
 use Rattle.std.proofs.Common.{◌≡◌, sym, ap, ◌∙◌, rules}
 use Rattle.sync_objects.specs.declared.object.ObjId.{ObjId}
 use Rattle.sync_objects.specs.contracts.object.ObjIdPartialEq.TheImpl
-use Rattle.runs.specs.Same.{same_object}
-use Rattle.runs.proofs.SameEntries.{same_object-true, same_object-refl}
+use Rattle.run_theory.specs.Same.{same_object}
+use Rattle.run_theory.proofs.SameEntries.{same_object-true, same_object-refl}
 use Rattle.replayer.proofs.making.is_at.Goals as goal
 
 eq_is_same : (o p : ObjId) → TheImpl.ghosts.eq o p ≡ same_object o p

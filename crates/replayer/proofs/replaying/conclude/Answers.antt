@@ -3,7 +3,7 @@ use Rattle.sync_objects.specs.Setup.{IsWithinLimits}
 use Rattle.core_run.specs.Machine.{start_state}
 use Rattle.core_run.specs.Walks.{IsUnfinished, WalkIs}
 use Rattle.shared_cells.specs.Closing.{Closes}
-use Rattle.walk_pieces.specs.Remains.{IsWalked}
+use Rattle.run_walk.specs.Remains.{IsWalked}
 use Rattle.replayer.specs.Following.{made_in}
 use Rattle.replayer.specs.Replays.{HaveFollowed, entries_taken}
 use Rattle.replayer.proofs.Counting.{if_ok_map}

@@ -1,7 +1,7 @@
 use Rattle.std.proofs.Common.{◌≡◌, ◌++◌, map}
 use Rattle.std.specs.Vec.Iter.{into_iter_items}
 use Rattle.replayer.specs.Following.{Following}
-use Rattle.walk_pieces.specs.Remains.{remains_in}
+use Rattle.run_walk.specs.Remains.{remains_in}
 use Rattle.replayer.proofs.replaying.parts_of.Given as goal
 
 abbrev pub invariant-loop-follower : goal.invariant-loop-follower

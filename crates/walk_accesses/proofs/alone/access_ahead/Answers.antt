@@ -1,7 +1,7 @@
 use Rattle.std.proofs.Common.{◌≡◌, ◌-◌, subst, sym, ap, ◌∙◌, arith}
 use Rattle.std.proofs.lemmas.Result.{IfOk-weaker}
 use Rattle.core_run.specs.Machine.{machine}
-use Rattle.runs.specs.Walk.{alone}
+use Rattle.run_theory.specs.Walk.{alone}
 use Rattle.walk_accesses.specs.Steps.{FindsAt, GoesTo, Looks, Steps}
 use Rattle.walk_accesses.proofs.OwnSteps.{look}
 use Rattle.walk_accesses.proofs.alone.access_ahead.Goals as goal

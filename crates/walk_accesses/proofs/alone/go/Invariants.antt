@@ -1,7 +1,7 @@
 use Rattle.std.proofs.Common.{◌≡◌, Some}
 use Rattle.core_run.specs.Machine.{Told, machine}
-use Rattle.runs.specs.Steps.{State}
-use Rattle.runs.specs.Walk.{alone}
+use Rattle.run_theory.specs.Steps.{State}
+use Rattle.run_theory.specs.Walk.{alone}
 use Rattle.walk_accesses.specs.Steps.{IsIn}
 use Rattle.walk_accesses.proofs.OwnSteps.{Between}
 use Rattle.walk_accesses.proofs.alone.go.Given as goal

@@ -1,7 +1,7 @@
 use Rattle.std.proofs.Common.{◌≡◌, get_or, subst, ap, ◌∙◌}
 use Rattle.std.specs.Prelude.{IfOk}
 use Rattle.std.proofs.lemmas.Option.{get_or_from_slice_get}
-use Rattle.thread_flow.specs.Flows.{Running}
+use Rattle.thread_interpreter.specs.Flows.{Running}
 use Rattle.walk_accesses.specs.Steps.{FindsAt}
 use Rattle.walk_accesses.proofs.at_count.access_of.Goals as goal
 

@@ -1,7 +1,7 @@
 use Rattle.std.proofs.Common.{◌≡◌, subst, ap, ◌∙◌}
 use Rattle.chain_report.specs.Finds.{FoundIs}
 use Rattle.core_run.specs.Walks.{WalkIs}
-use Rattle.outcomes.specs.Outcomes.{answers}
+use Rattle.job_outcomes.specs.Outcomes.{answers}
 use Rattle.walk_hits.specs.Telling.{answer_of}
 use Rattle.walk_chains.proofs.told.told_chain.Goals as goal
 

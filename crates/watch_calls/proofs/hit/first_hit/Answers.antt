@@ -1,7 +1,7 @@
 use Rattle.std.proofs.Common.{◌≡◌, rules, tests, position, ◌∙◌}
 use Rattle.std.proofs.lemmas.Iterator.{YieldsList-from_slice}
 use Rattle.std.proofs.lemmas.Iterator.Search.{position_from_yields_List}
-use Rattle.thread_flow.specs.Formulas.{meets}
+use Rattle.thread_interpreter.specs.Formulas.{meets}
 use Rattle.watch_calls.proofs.hit.first_hit.Goals as goal
 
 pub returns : goal.returns

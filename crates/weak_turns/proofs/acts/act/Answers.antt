@@ -1,5 +1,5 @@
 use Rattle.std.proofs.Common.{refl, sym, ap, subst, ◌∙◌, ◌≤◌}
-use Rattle.abstract_machine.specs.declared.event.Action.TheVariants as action
+use Rattle.word_semantics.specs.declared.event.Action.TheVariants as action
 use Rattle.core_run.specs.Words.{has_object}
 use Rattle.flow_code.specs.Settle.{IsRunnable}
 use Rattle.shared_cells.specs.Seats.{view_of}

@@ -1,8 +1,8 @@
 use Rattle.std.proofs.Common.{◌≡◌, ◌∙◌, ap, rules, to_z, of_z}
 use Rattle.std.proofs.lemmas.Int.{to_z-of_z}
 use mir.Syntax.{w64}
-use Rattle.abstract_machine.specs.Values.{number}
-use Rattle.abstract_machine.specs.declared.event.Action.TheVariants as action
+use Rattle.word_semantics.specs.Values.{number}
+use Rattle.word_semantics.specs.declared.event.Action.TheVariants as action
 use Rattle.shared_cells.specs.Seats.{view_of}
 use Rattle.shared_cells.specs.Threads.{pending, after_load}
 use Rattle.shared_cells.specs.Views.{with_thread}

@@ -1,4 +1,4 @@
-use Rattle.abstract_machine.specs.declared.event.Action.TheVariants as action
+use Rattle.word_semantics.specs.declared.event.Action.TheVariants as action
 use Rattle.shared_cells.specs.Seats.{view_of}
 use Rattle.shared_cells.specs.Threads.{pending, after_store}
 use Rattle.shared_cells.specs.Views.{with_thread}

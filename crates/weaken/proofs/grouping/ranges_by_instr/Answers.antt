@@ -1,6 +1,6 @@
 use Rattle.std.proofs.Common.{arith, ap, ◌∙◌}
 use Rattle.std.specs.Prelude.{filter, ◌==◌}
-use Rattle.weak_facts.specs.declared.range.Range.{Range}
+use Rattle.weak_lock_facts.specs.declared.range.Range.{Range}
 use Rattle.weaken.proofs.Nexts.{put_next, take_all, gets}
 use Rattle.weaken.proofs.grouping.ranges_by_instr.Goals as goal
 

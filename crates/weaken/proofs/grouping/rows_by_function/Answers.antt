@@ -1,6 +1,6 @@
 use Rattle.std.proofs.Common.{arith, ap, ◌∙◌}
 use Rattle.std.specs.Prelude.{filter, ◌==◌}
-use Rattle.weak_facts.specs.declared.grain.Grained.{Grained}
+use Rattle.weak_lock_facts.specs.declared.grain.Grained.{Grained}
 use Rattle.weaken.proofs.Nexts.{put_next, take_all, gets}
 use Rattle.weaken.proofs.grouping.rows_by_function.Goals as goal
 

@@ -1,6 +1,6 @@
 use Rattle.std.proofs.Common.{arith, ap, sym, ◌∙◌}
 use Rattle.std.specs.Prelude.{if◌then◌else◌}
-use Rattle.weak_facts.specs.declared.grain.Grain.TheVariants as grains
+use Rattle.weak_lock_facts.specs.declared.grain.Grain.TheVariants as grains
 use Rattle.weak_code.specs.Stretches as spec
 use Rattle.weaken.proofs.Nexts.{here}
 use Rattle.weaken.proofs.Parts.{locks_next}

@@ -1,6 +1,6 @@
 use Rattle.std.proofs.Common.{◌≡◌, true, take}
 use Rattle.flow_code.specs.Regions.{ascend}
-use Rattle.weak_facts.specs.declared.grain.Grain.TheVariants as grains
+use Rattle.weak_lock_facts.specs.declared.grain.Grain.TheVariants as grains
 use Rattle.weak_code.specs.Stretches as spec
 use Rattle.weaken.proofs.stretches.locks_of_function.Given as goal
 

@@ -2,7 +2,7 @@ use Rattle.std.proofs.Common.{◌<◌, List, [], length, get_or, sym, subst, ap,
 use Rattle.std.specs.Prelude.{All}
 use Rattle.std.specs.List.{filter_map}
 use Rattle.flow_code.specs.declared.code.Function.{Function}
-use Rattle.weak_facts.specs.declared.range.Range.{Range}
+use Rattle.weak_lock_facts.specs.declared.range.Range.{Range}
 use Rattle.weak_code.specs.declared.stretch.RacyAccess.{RacyAccess}
 use Rattle.weak_code.specs.Stretches as stretches
 use Rattle.weaken.proofs.Nexts.{ok_map, here_in}

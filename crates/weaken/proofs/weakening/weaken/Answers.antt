@@ -1,6 +1,6 @@
 use Rattle.std.proofs.Common.{◌≡◌, true, sym, subst, ◌∙◌}
 use Rattle.flow_code.specs.Valid.{is_valid}
-use Rattle.weak_sound.proofs.Valid.{weakened_valid}
+use Rattle.weak_valid.proofs.Valid.{weakened_valid}
 use Rattle.weaken.proofs.Chosen.{weakened_same}
 use Rattle.weaken.proofs.Nexts.{ok_map}
 use Rattle.weaken.proofs.weakening.weaken.Goals as goal

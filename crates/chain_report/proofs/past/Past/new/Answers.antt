@@ -2,7 +2,7 @@ use Rattle.std.proofs.Common.{ℕ, [], Option, None, length, sym, ap, subst, ◌
 use Rattle.std.specs.Map.{lookup}
 use Rattle.std.specs.Option.{option_map_or}
 use Rattle.std.proofs.lemmas.List.{length-replicate}
-use Rattle.runs.specs.Same.{same_object}
+use Rattle.run_theory.specs.Same.{same_object}
 use Rattle.chain_report.specs.Past.{nothing, same_hold, KeptIs}
 use Rattle.chain_report.proofs.PastRows.{no_links, nothing_is}
 use Rattle.chain_report.proofs.past.Past.new.Goals as goal

@@ -1,9 +1,0 @@
-use Rattle.std.proofs.Common.{ap, ◌∙◌, codes}
-use Rattle.std.proofs.lemmas.Result.{IfOk-weaker}
-use Rattle.answers.proofs.Matched.{word}
-use Rattle.answers.proofs.reading.make_reader.Goals as goal
-
-pub returns : goal.returns
-returns c =
-    let count = c.in_ok-reader.ensures ∙ ap (word (codes "count")) c.bare.ensures in
-    IfOk-weaker c.with_word-2.result _ _ (λ r e. e ∙ ap (word (codes "name")) count) c.with_word-2.ensures

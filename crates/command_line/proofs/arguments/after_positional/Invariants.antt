@@ -1,0 +1,10 @@
+use Rattle.std.proofs.Common.{◌≡◌, length, map, string_bytes}
+use Rattle.command_line.specs.Arguments as spec
+use Rattle.command_line.proofs.arguments.after_positional.Given as goal
+
+-- the words that are passed have no positional one
+abbrev pub invariant-loop-words : goal.invariant-loop-words
+invariant-loop-words l = spec.positional (spec.arguments (map string_bytes l.fn.words)) ≡ spec.positional (spec.arguments (map string_bytes l.words))
+
+abbrev pub decreases-loop-words : goal.decreases-loop-words
+decreases-loop-words l = length l.words

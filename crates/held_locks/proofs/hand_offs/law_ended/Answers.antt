@@ -1,5 +1,0 @@
-use Rattle.held_locks.proofs.HandOrders.{has_ended}
-use Rattle.held_locks.proofs.hand_offs.law_ended.Goals as goal
-
-pub returns : goal.returns
-returns c = λ code setup labels k t b run limits joins zero_is. has_ended code setup run limits labels k t b joins zero_is

@@ -1,5 +1,0 @@
-use Rattle.held_locks.proofs.MutexHolders.{holder_is}
-use Rattle.held_locks.proofs.laws.law_mutex_holder.Goals as goal
-
-pub returns : goal.returns
-returns c = λ code setup cell labels end run limits has e. holder_is code setup run limits cell has labels end e

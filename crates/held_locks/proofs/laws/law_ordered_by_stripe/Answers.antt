@@ -1,5 +1,0 @@
-use Rattle.held_locks.proofs.LockOrders.{ordered_by_stripe}
-use Rattle.held_locks.proofs.laws.law_ordered_by_stripe.Goals as goal
-
-pub returns : goal.returns
-returns c = ordered_by_stripe

@@ -1,5 +1,0 @@
-use Rattle.held_locks.proofs.RwStates.{exclusive_at}
-use Rattle.held_locks.proofs.laws.law_rw_exclusive.Goals as goal
-
-pub returns : goal.returns
-returns c = λ code setup cell state run limits has reached. exclusive_at code setup run limits cell has state reached

@@ -1,5 +1,0 @@
-use Rattle.held_locks.proofs.RwHolders.{held_as_shown}
-use Rattle.held_locks.proofs.laws.law_rw_held.Goals as goal
-
-pub returns : goal.returns
-returns c = λ code setup cell run limits has. held_as_shown code setup run limits cell has

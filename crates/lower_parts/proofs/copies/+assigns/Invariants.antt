@@ -1,9 +1,0 @@
-use Rattle.std.proofs.Common.{◌≡◌, drop, map}
-use Rattle.c_core.specs.Core.{listed}
-use Rattle.c_core.specs.View.{exp_of}
-use Rattle.lower_parts.specs.Kept.{any_assigns}
-use Rattle.lower_parts.proofs.copies.+assigns.Given as goal
-
--- the rest decides
-abbrev pub invariant-any_assigns-loop-e : goal.invariant-any_assigns-loop-e
-invariant-any_assigns-loop-e l = any_assigns l.register (listed (map exp_of (drop l.e-index l.es))) ≡ any_assigns l.fn.register (listed (map exp_of l.fn.es))

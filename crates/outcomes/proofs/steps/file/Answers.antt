@@ -1,5 +1,0 @@
-use Rattle.outcomes.proofs.Reading.{large_file}
-use Rattle.outcomes.proofs.steps.file.Goals as goal
-
-pub returns-in-None-clause-content : goal.returns-in-None-clause-content
-returns-in-None-clause-content g c = large_file (g.S.Shelf.files c.args.shelf.now) c.args.most c.args.what c.args.name.now _ c.in-None.is c.in_ok-bytes.ensures.content

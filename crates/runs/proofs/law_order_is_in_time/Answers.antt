@@ -1,5 +1,0 @@
-use Rattle.runs.proofs.InTime.{ordered_in_time}
-use Rattle.runs.proofs.law_order_is_in_time.Goals as goal
-
-pub returns : goal.returns
-returns g c = λ m start labels i j law ordered. ordered_in_time m law labels start i j ordered

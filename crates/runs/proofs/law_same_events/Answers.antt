@@ -1,7 +1,0 @@
-use Rattle.runs.proofs.SameEvents.{same_events}
-use Rattle.runs.proofs.NthEvents.{moved}
-use Rattle.runs.proofs.law_same_events.Goals as goal
-
-pub returns : goal.returns
-returns g c = λ m start end other_end labels other i t n event law free runs others over others_over same is.
-    moved m law labels other start (same_events m law labels other start end other_end free runs others over others_over same) t n event i is

@@ -1,5 +1,0 @@
-use Rattle.source_runs.proofs.WalkRuns.{walk_is_run}
-use Rattle.source_runs.proofs.laws.law_walk_run.Goals as goal
-
-pub returns : goal.returns
-returns c = walk_is_run

@@ -1,9 +1,0 @@
-use Rattle.std.proofs.Common.{◌≡◌, ◌++◌, length}
-use Rattle.walk_pieces.specs.Remains.{endings_in}
-use Rattle.walk_pieces.proofs.whole.endings_of.Given as goal
-
-abbrev pub invariant-loop-rest : goal.invariant-loop-rest
-invariant-loop-rest l = record { same : endings_in l.remains ≡ l.found ++ endings_in l.rest }
-
-abbrev pub decreases-loop-rest : goal.decreases-loop-rest
-decreases-loop-rest l = length l.rest

@@ -1,5 +1,0 @@
-use Rattle.weak_sound.proofs.NoPairs.{no_pairs}
-use Rattle.weak_sound.proofs.laws.law_no_pairs_no_locks.Goals as goal
-
-pub returns : goal.returns
-returns c = no_pairs
