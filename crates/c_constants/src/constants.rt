@@ -1,6 +1,6 @@
 //! Which expressions are constant, and their values by those of their operands (C99 6.6).
 ghost use Rattle.std.specs.Prelude.{◌≡◌, map};
-ghost use Rattle.c_text.specs.Texts.{entry_of};
+ghost use Rattle.rr_base.specs.Texts.{entry_of};
 ghost use Rattle.c_tree.specs.View.{exp_of};
 ghost use Rattle.c_types.specs.Constants as spec;
 ghost use Rattle.c_types.specs.Numbers.{prefixed};

@@ -1,6 +1,6 @@
 -- The types of the pointers to functions of a source, and to which functions each may point (C99 6.7.5.3).
 use Rattle.std.specs.Prelude.{ℕ, ◌+◌, ◌==◌, Bool, false, not, ◌&&◌, if◌then◌else◌, List, [], ◌∷◌, ◌++◌, map, Option, Some, None}
-use Rattle.c_text.specs.Texts.{Text}
+use Rattle.rr_base.specs.Texts.{Text}
 use Rattle.c_types.specs.declared.library.Wanted.{Wanted}
 use Rattle.c_types.specs.declared.library.Wanted.TheVariants as wants
 use Rattle.c_types.specs.declared.names.PointerType.{PointerType}

@@ -5,7 +5,7 @@ ghost use Rattle.c_tree.specs.Tree.{listed_inits, plain};
 ghost use Rattle.c_tree.specs.View.{declared_of, exp_of, init_of, object_of};
 ghost use Rattle.c_programs.specs.Declarators.{declared_type};
 ghost use Rattle.c_programs.specs.Initials.{part_at, part_type};
-ghost use Rattle.c_text.specs.Texts.{entry_of};
+ghost use Rattle.rr_base.specs.Texts.{entry_of};
 ghost use Rattle.c_types.specs.Scopes.{function_numbered, with_name};
 ghost use Rattle.c_types.specs.Shown.{shown_maybe};
 ghost use Rattle.c_spots.specs.SpotViews.{shown_holder, shown_spots};

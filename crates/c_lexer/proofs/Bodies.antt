@@ -1,7 +1,7 @@
 -- One unit of a text more.
 use Rattle.std.proofs.Common.{◌≡◌, ℕ, zero, suc, ◌≤◌, ◌+◌, ◌-◌, List, [], ◌∷◌, ◌++◌, length, drop, refl, ap, sym, ◌∙◌, arith, add-zero, append_assoc}
 use Rattle.std.proofs.lemmas.List.{drop-drop}
-use Rattle.c_text.specs.Texts.{Text}
+use Rattle.rr_base.specs.Texts.{Text}
 use Rattle.c_lexer.specs.Quotes.{unit_at, body_from, body_by, with_byte}
 use Rattle.c_lexer.specs.declared.piece.Unit.TheVariants as part
 use Rattle.c_lexer.specs.declared.piece.Body.{Body}

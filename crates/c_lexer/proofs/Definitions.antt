@@ -1,7 +1,7 @@
 -- What a `#define` gives a value.
 use Rattle.std.proofs.Common.{◌≡◌, ℕ, ◌+◌, ◌-◌, ◌≤◌, ◌&&◌, Bool, true, false, not, is_some, length, take, drop, slice_range, Option, Some, None, refl, ap, sym, ◌∙◌, arith, if◌then◌else◌, length-take}
 use Rattle.std.proofs.lemmas.List.{drop-take, take-take}
-use Rattle.c_text.specs.Texts.{Text, entry_of}
+use Rattle.rr_base.specs.Texts.{Text, entry_of}
 use Rattle.c_lexer.specs.Defined.{Defined}
 use Rattle.c_lexer.specs.Directives.{valued, value_by, is_tail}
 use Rattle.c_lexer.specs.Names.{is_free}

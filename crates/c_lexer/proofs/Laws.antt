@@ -4,7 +4,7 @@ use Rattle.std.proofs.lemmas.Bool.{ltb-true}
 use Rattle.std.proofs.Math.Seq.{drop-append_seam}
 use Rattle.std.specs.List.{starts_with, AllByRecursion}
 use Rattle.std.proofs.lemmas.List.Elements.{All-contains, All-from_recursion, recursion_from_All}
-use Rattle.c_text.specs.Texts.{Text}
+use Rattle.rr_base.specs.Texts.{Text}
 use Rattle.c_lexer.specs.Defined.{Defined}
 use Rattle.c_lexer.specs.Names.{name_at, is_blank_word, word_of, kind_of}
 use Rattle.c_lexer.specs.Laws.{IsTokenOf, LongestIsCut, spellings, spelled, AreFound, SpelledAreFound}

@@ -5,7 +5,7 @@ use Rattle.std.proofs.lemmas.List.{reverse-append, take-append-drop}
 use Rattle.std.proofs.Math.Seq.{take-append_seam}
 use Rattle.std.proofs.lemmas.List.Sums.{sum_by-append}
 use Rattle.rr_base.specs.Positions.{position_at}
-use Rattle.c_text.specs.Texts.{Text}
+use Rattle.rr_base.specs.Texts.{Text}
 use Rattle.c_lexer.specs.Bytes.{is_in_line}
 use Rattle.c_lexer.specs.Laws.{IsCursorOf, ArePlaced, PlacesAreTrue}
 use Rattle.c_lexer.specs.Tokens.{Found, Reading, start, piece_at, tokens_of, tokens_from, with_token, met, next, after, passed}

@@ -1,7 +1,7 @@
 -- One piece more.
 use Rattle.std.proofs.Common.{◌≡◌, ℕ, zero, suc, ◌≤◌, ◌<◌, ◌+◌, ◌-◌, List, [], ◌∷◌, ◌++◌, nat_lt, length, take, drop, slice_range, ℤ, Ok, Err, refl, ap, sym, ◌∙◌, arith, append_assoc}
 use Rattle.rr_base.specs.declared.position.Position.{Position}
-use Rattle.c_text.specs.Texts.{Text}
+use Rattle.rr_base.specs.Texts.{Text}
 use Rattle.c_lexer.specs.Spans.{AreInOrder}
 use Rattle.c_lexer.specs.Faults.{fault_at}
 use Rattle.c_lexer.specs.Tokens.{Reading, Found, piece_at, after, passed, met, tokens_from, with_token, IsFaultOf}

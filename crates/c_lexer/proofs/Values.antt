@@ -2,7 +2,7 @@
 use Rattle.std.proofs.Common.{◌≡◌, cond, List, [], ◌∷◌, ◌++◌, map, Some, ℤ, refl, ap}
 use Rattle.std.specs.Map.{lookup}
 use Rattle.std.specs.Str.{bytes_eq}
-use Rattle.c_text.specs.Texts.{Text, entry_of}
+use Rattle.rr_base.specs.Texts.{Text, entry_of}
 
 module _ {K : Type 0} (now : K → Text) where
   pub lookup-entry_of : (es : List (K × ℤ)) (name : Text) → lookup (λ k. bytes_eq name (now k)) es ≡ entry_of (map (λ e. (now e.0, e.1)) es) name

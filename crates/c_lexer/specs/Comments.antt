@@ -1,6 +1,6 @@
 -- Comments (C99 6.4.9): each stands for a blank.
 use Rattle.std.specs.Prelude.{ℕ, suc, ◌+◌, ◌&&◌, if◌then◌else◌, ◌==◌, [], ◌∷◌, drop, slice_index, Option, Some, None, option_map}
-use Rattle.c_text.specs.Texts.{Text}
+use Rattle.rr_base.specs.Texts.{Text}
 use Rattle.c_lexer.specs.declared.fault.Fault.TheVariants.{OpenComment}
 use Rattle.c_lexer.specs.declared.piece.Piece.{Piece}
 use Rattle.c_lexer.specs.declared.piece.Piece.TheVariants as piece

@@ -1,6 +1,6 @@
 -- What `#define` has made of names.
 use Rattle.std.specs.Prelude.{List, ℤ}
-use Rattle.c_text.specs.Texts.{Text}
+use Rattle.rr_base.specs.Texts.{Text}
 
 -- the names that have a value, in the order of their directives
 abbrev pub Defined : Type 0

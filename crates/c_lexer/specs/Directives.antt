@@ -2,7 +2,7 @@
 use Rattle.std.specs.Prelude.{ℕ, ◌+◌, Bool, false, ◌&&◌, ◌||◌, if◌then◌else◌, ◌==◌, nat_lt, nat_eq, List, [], ◌∷◌, length, take, drop, slice_index, slice_range, Option, Some, None, pos, neg_ℤ, codes}
 use Rattle.std.specs.Char.{is_ascii_digit}
 use Rattle.std.specs.List.{prefix_len, starts_with}
-use Rattle.c_text.specs.Texts.{Text}
+use Rattle.rr_base.specs.Texts.{Text}
 use Rattle.c_lexer.specs.Bytes.{is_gap, is_in_line, begins_name, continues_name}
 use Rattle.c_lexer.specs.Tables.{headers}
 use Rattle.c_lexer.specs.Numbers.{literal_at}

@@ -1,7 +1,7 @@
 -- What follows of the tokens of a text, in words that know nothing of how they are found.
 use Rattle.std.specs.Prelude.{◌≡◌, ◌≤◌, ℕ, ◌+◌, ◌==◌, nat_eq, IsTrue, List, [], ◌∷◌, ◌++◌, length, map, take, Contains, All, count_by, Ok, Err}
 use Rattle.std.specs.List.{starts_with, suffix_len}
-use Rattle.c_text.specs.Texts.{Text}
+use Rattle.rr_base.specs.Texts.{Text}
 use Rattle.c_lexer.specs.Bytes.{is_in_line}
 use Rattle.c_lexer.specs.Tables.{puncts, words}
 use Rattle.c_lexer.specs.Faults.{fault_at}

@@ -1,7 +1,7 @@
 -- Names and words (C99 6.4.1, 6.4.2).
 use Rattle.std.specs.Prelude.{Bool, not, ◌&&◌, if◌then◌else◌, take, Option, Some, None, is_some, ℤ}
 use Rattle.std.specs.List.{prefix_len}
-use Rattle.c_text.specs.Texts.{Text, entry_of}
+use Rattle.rr_base.specs.Texts.{Text, entry_of}
 use Rattle.c_lexer.specs.Bytes.{continues_name}
 use Rattle.c_lexer.specs.Defined.{Defined}
 use Rattle.c_lexer.specs.Tables.{words, blank_words, refused_words, is_among, is_library_name}

@@ -2,7 +2,7 @@
 use Rattle.std.specs.Prelude.{ℕ, ◌+◌, ◌*◌, ◌^◌, Bool, true, false, ◌&&◌, ◌||◌, if◌then◌else◌, ◌==◌, nat_lt, nat_eq, [], ◌∷◌, take, drop, slice_index, pos, Option, Some, None, codes}
 use Rattle.std.specs.Char.{is_digit, digit_value}
 use Rattle.std.specs.List.{prefix_len, starts_with}
-use Rattle.c_text.specs.Texts.{Text}
+use Rattle.rr_base.specs.Texts.{Text}
 use Rattle.c_lexer.specs.Bytes.{continues_name}
 use Rattle.c_lexer.specs.declared.fault.Fault.TheVariants.{BadByte, WideNumber}
 use Rattle.c_lexer.specs.declared.piece.Literal.{Literal}

@@ -1,7 +1,7 @@
 -- How far pieces and their parts reach, and what else their calls ask and give.
 use Rattle.std.specs.Prelude.{ℕ, ◌≤◌, ◌<◌, ◌+◌, ◌^◌, ◌≡◌, Bool, true, ◌&&◌, nat_lt, List, [], ◌∷◌, length, slice_range, Option, Some, None, FitsSigned}
 use Rattle.std.specs.Int.{w64}
-use Rattle.c_text.specs.Texts.{Text, entry_of}
+use Rattle.rr_base.specs.Texts.{Text, entry_of}
 use Rattle.c_lexer.specs.Defined.{Defined}
 use Rattle.c_lexer.specs.declared.piece.Literal.{Literal}
 use Rattle.c_lexer.specs.declared.piece.Parts.{Parts}

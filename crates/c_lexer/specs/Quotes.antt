@@ -1,7 +1,7 @@
 -- Letters and texts (C99 6.4.4.4, 6.4.5). Past its end a source reads as bytes 0, which may not stand between quotes.
 use Rattle.std.specs.Prelude.{ℕ, zero, suc, ◌+◌, ◌-◌, not, ◌&&◌, ◌||◌, if◌then◌else◌, ◌==◌, [], ◌∷◌, drop, slice_index, Option, Some, None}
 use Rattle.std.specs.Char.{is_digit}
-use Rattle.c_text.specs.Texts.{Text}
+use Rattle.rr_base.specs.Texts.{Text}
 use Rattle.c_lexer.specs.Bytes.{is_quotable}
 use Rattle.c_lexer.specs.declared.fault.Fault.TheVariants as fault
 use Rattle.c_lexer.specs.declared.piece.Unit.{Unit as Part}

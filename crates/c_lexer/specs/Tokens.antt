@@ -4,7 +4,7 @@ use Rattle.std.specs.Prelude.{◌≡◌, ℕ, zero, suc, ◌+◌, ◌-◌, Bool,
 use Rattle.std.specs.Char.{is_ascii_digit}
 use Rattle.std.specs.List.{prefix_len, starts_with}
 use Rattle.rr_base.specs.Positions.{position_at}
-use Rattle.c_text.specs.Texts.{Text}
+use Rattle.rr_base.specs.Texts.{Text}
 use Rattle.c_lexer.specs.Bytes.{is_blank, begins_name, is_in_line}
 use Rattle.c_lexer.specs.Tables.{puncts}
 use Rattle.c_lexer.specs.Numbers.{number_at}

@@ -1,7 +1,7 @@
 //! The names to which `#define` has given values.
 
 ghost use Rattle.std.specs.Prelude.{◌≡◌, [], ◌∷◌, ◌++◌, map, None, OnOk, IsNone};
-ghost use Rattle.c_text.specs.Texts.{entry_of};
+ghost use Rattle.rr_base.specs.Texts.{entry_of};
 
 use indexmap::IndexMap;
 use std::alloc::{AllocError, Global};

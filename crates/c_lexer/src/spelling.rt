@@ -1,7 +1,7 @@
 //! The spellings that mean something of their own, each list in one place.
 
 ghost use Rattle.std.specs.Prelude.{◌≡◌, ◌<◌, ◌≤◌, length, map, IsTrue};
-ghost use Rattle.c_text.specs.Texts.{entry_of};
+ghost use Rattle.rr_base.specs.Texts.{entry_of};
 ghost use Rattle.c_lexer.specs.Pieces.{IsPlainWithin};
 ghost use Rattle.c_lexer.specs.Pieces as spec;
 ghost use Rattle.c_lexer.specs.Directives as directive;

@@ -1,6 +1,6 @@
 -- How many numbers a part of a function uses, and that a block leaves the scopes outside of it alone.
 use Rattle.std.proofs.Common.{◌≡◌, ℕ, ◌+◌, List, [], ◌∷◌, length, drop, Option, None, Some, refl, sym, ap, ◌∙◌, arith}
-use Rattle.c_text.specs.Texts.{Text}
+use Rattle.rr_base.specs.Texts.{Text}
 use Rattle.c_tree.specs.declared.name.Name.{Name}
 use Rattle.c_tree.specs.Tree.{Formal, Declared, Object, Declares, declares, Start, start_declares, start_computes, Parts, no_part, and_declares, and_does}
 use Rattle.c_names.specs.Sources.{declared_name, param_name, declared_by}

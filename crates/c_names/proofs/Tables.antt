@@ -7,7 +7,7 @@ use Rattle.std.specs.Map.{lookup}
 use Rattle.std.specs.Option.{option_map}
 use Rattle.std.specs.Str.{bytes_eq}
 use Rattle.indexmap.specs.IndexSet.{insert_key}
-use Rattle.c_text.specs.Texts.{Text, entry_of}
+use Rattle.rr_base.specs.Texts.{Text, entry_of}
 use Rattle.c_names.specs.declared.table.Declared.{Declared}
 use Rattle.c_types.specs.Scopes.{Meaning, has_name, with_text, with_name}
 use Rattle.c_types.specs.declared.types.ObjectType.{ObjectType}

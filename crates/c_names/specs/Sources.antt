@@ -1,6 +1,6 @@
 -- What a source names: its declarators, its parameters, and the structs and functions that it defines.
 use Rattle.std.specs.Prelude.{ℕ, ◌+◌, ◌^◌, min, Bool, true, false, List, [], ◌∷◌, Option, Some}
-use Rattle.c_text.specs.Texts.{Text}
+use Rattle.rr_base.specs.Texts.{Text}
 use Rattle.c_tree.specs.declared.name.Name.{Name}
 use Rattle.c_tree.specs.Tree.{Formal, formal, formal_pointer, Formals, no_formals, void_formals, listed_formals, FormalRow, no_formal, and_formal, Declared, declared, declared_pointer, Object, plain, initialised, Code, defined, prototype, Outer, structure, function, objects}
 use Rattle.c_types.specs.Scopes.{with_text}

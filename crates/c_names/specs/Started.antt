@@ -1,6 +1,6 @@
 -- Which function a thread is started with (POSIX pthread_create).
 use Rattle.std.specs.Prelude.{Option, Some, None}
-use Rattle.c_text.specs.Texts.{Text}
+use Rattle.rr_base.specs.Texts.{Text}
 use Rattle.c_tree.specs.Tree.{Exp, named, Exps, and_exp}
 
 -- the function is the third argument of the call, by its name

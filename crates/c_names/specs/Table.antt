@@ -2,7 +2,7 @@
 use Rattle.std.specs.Prelude.{List, map, reverse, Option}
 use Rattle.std.specs.Borrow.{Bor}
 use Rattle.indexmap.specs.IndexMap.{IndexMap}
-use Rattle.c_text.specs.Texts.{Text}
+use Rattle.rr_base.specs.Texts.{Text}
 use Rattle.c_types.specs.declared.types.ObjectType.{ObjectType}
 use Rattle.c_names.specs.declared.table.Declared.{Declared}
 use Rattle.c_names.specs.declared.table.Declared.TheVariants as declared

@@ -1,7 +1,7 @@
 //! The table of names: what is known at a place of a source, kept while its text is passed (C99 6.2.1, 6.2.3).
 ghost use Rattle.std.specs.Prelude.{◌≡◌, ◌++◌, ◌∷◌, [], map, slice_get, true, Some, length, IfOk, OnOk};
 ghost use Rattle.std.specs.Option.{option_map};
-ghost use Rattle.c_text.specs.Texts.{entry_of};
+ghost use Rattle.rr_base.specs.Texts.{entry_of};
 ghost use Rattle.c_tree.specs.View.{outer_of, program_of};
 ghost use Rattle.c_types.specs.Scopes as spec;
 ghost use Rattle.c_types.specs.Signatures.{pointed_types};

@@ -1,6 +1,6 @@
 -- In which scope a name is found.
 use Rattle.std.proofs.Common.{◌≡◌, ℕ, ◌+◌, ◌-◌, ◌<◌, ◌≤◌, List, length, map, reverse, take, slice_get, Option, Some, sym, ap, ◌∙◌, arith}
-use Rattle.c_text.specs.Texts.{Text, entry_of}
+use Rattle.rr_base.specs.Texts.{Text, entry_of}
 use Rattle.c_types.specs.Scopes.{or_else}
 use Rattle.c_numbers.specs.Numbered.{number_seen}
 use Rattle.c_types.proofs.Keyed.{reverse-take}

@@ -3,7 +3,7 @@ use Rattle.std.specs.Prelude.{ℕ, List, Option, Some, None, map, reverse}
 use Rattle.std.specs.Borrow.{Bor}
 use Rattle.std.specs.Global.{Box}
 use Rattle.indexmap.specs.IndexMap.{IndexMap}
-use Rattle.c_text.specs.Texts.{Text}
+use Rattle.rr_base.specs.Texts.{Text}
 use Rattle.c_types.specs.Shown.{shown_standing}
 use Rattle.c_names.specs.Table.{known_of}
 use Rattle.c_numbers.specs.NumberTables.{numbered_of}

@@ -1,6 +1,6 @@
 -- What declarators declare: types, the members of structs, and the parameters of functions (C99 6.7.2.1, 6.7.5).
 use Rattle.std.specs.Prelude.{ℕ, ◌+◌, ◌==◌, nat_lt, Bool, true, false, ◌&&◌, ◌||◌, if◌then◌else◌, List, [], ◌∷◌, ◌++◌, replicate, map, length, Option, Some, None, is_some, is_none}
-use Rattle.c_text.specs.Texts.{Text, entry_of}
+use Rattle.rr_base.specs.Texts.{Text, entry_of}
 use Rattle.c_tree.specs.declared.name.Name.{Name}
 use Rattle.c_tree.specs.declared.ctype.Specifier.{Specifier}
 use Rattle.c_tree.specs.Tree.{Exp, Formal, formal, formal_pointer, Formals, Declared, declared, declared_pointer, Fields, fields}

@@ -1,6 +1,6 @@
 -- Functions and whole sources (C99 6.9), and which rules they break.
 use Rattle.std.specs.Prelude.{ℕ, ◌==◌, Bool, true, false, not, ◌&&◌, List, [], ◌∷◌, ◌++◌, Option, Some, None}
-use Rattle.c_text.specs.Texts.{entry_of}
+use Rattle.rr_base.specs.Texts.{entry_of}
 use Rattle.c_tree.specs.declared.name.Name.{Name}
 use Rattle.c_tree.specs.declared.ctype.Specifier.{Specifier}
 use Rattle.c_tree.specs.Tree.{Formals, Code, defined, prototype, Outer, structure, function, objects}

@@ -1,6 +1,6 @@
 //! Laws of the definitions.
 ghost use Rattle.std.specs.Prelude.{◌≡◌, ◌||◌, is_some};
-ghost use Rattle.c_text.specs.Texts.{Text};
+ghost use Rattle.rr_base.specs.Texts.{Text};
 ghost use Rattle.c_lexer.specs.Tables.{is_library_name};
 ghost use Rattle.c_types.specs.Constants.{constant_named};
 ghost use Rattle.c_types.specs.Library.{library_named};

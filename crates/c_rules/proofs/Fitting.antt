@@ -1,6 +1,6 @@
 -- What a call is, by the arguments that it wants where they are judged.
 use Rattle.std.proofs.Common.{◌≡◌, ℕ, Bool, true, false, if◌then◌else◌, [], Option, Some, None, refl}
-use Rattle.c_text.specs.Texts.{Text}
+use Rattle.rr_base.specs.Texts.{Text}
 use Rattle.c_tree.specs.Tree.{Exps}
 use Rattle.c_types.specs.declared.library.LibraryName.{LibraryName}
 use Rattle.c_types.specs.declared.library.LibraryName.TheVariants as library

@@ -3,7 +3,7 @@ use Rattle.std.specs.Prelude.{nat_le, Bool, ◌&&◌, if◌then◌else◌, List,
 use Rattle.rr_base.specs.declared.layout.CellKind.{CellKind}
 use Rattle.rr_base.specs.declared.layout.Layout.{Layout}
 use Rattle.rr_base.specs.declared.layout.Site.{Site}
-use Rattle.c_text.specs.Texts.{Text}
+use Rattle.rr_base.specs.Texts.{Text}
 use Rattle.c_tree.specs.Tree.{Outer}
 use Rattle.rr_base.specs.declared.position.Position.{Position}
 use Rattle.c_types.specs.declared.types.ObjectType.{ObjectType}

@@ -20,7 +20,7 @@ use c_types::{
     FaultKind, Found, MAX_CELLS, Names, ObjectType, TypeRef, cells_of, cells_of_structs,
     element_of, layout_of_type, note,
 };
-use number_text::push_numbered;
+use rr_base::push_numbered;
 use rr_base::{Bytes, CellKind, Layout, List, Position, Site};
 use std::alloc::{AllocError, Global};
 

@@ -1,6 +1,6 @@
 -- Constant expressions and their values (C99 6.6).
 use Rattle.std.specs.Prelude.{ℕ, ◌==◌, Bool, true, false, ◌&&◌, if◌then◌else◌, ℤ, pos, negsuc, List, [], ◌∷◌, Option, is_some, unwrap_or, Ok, Err, codes}
-use Rattle.c_text.specs.Texts.{Text, entry_of}
+use Rattle.rr_base.specs.Texts.{Text, entry_of}
 use Rattle.c_tree.specs.declared.ctype.Specifier.{Specifier}
 use Rattle.c_tree.specs.declared.ctype.Specifier.TheVariants as specifier
 use Rattle.c_tree.specs.declared.ctype.CType.{CType}

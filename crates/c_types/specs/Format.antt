@@ -1,6 +1,6 @@
 -- The conversions in the format of a `printf` (C99 7.19.6.1): `%d %i %ld %li %lld %lli %c`, and `%%` for a percent sign.
 use Rattle.std.specs.Prelude.{ℕ, ◌+◌, ◌==◌, Bool, ◌||◌, if◌then◌else◌, [], ◌∷◌, Option, Some, None}
-use Rattle.c_text.specs.Texts.{Text}
+use Rattle.rr_base.specs.Texts.{Text}
 use Rattle.c_types.specs.declared.format.Inside.{Inside}
 use Rattle.c_types.specs.declared.format.Inside.TheVariants as inside
 

@@ -1,7 +1,7 @@
 -- What each expression is (C99 6.5): a place, a value, or without a type where it has a fault in it.
 use Rattle.std.specs.Prelude.{ℕ, ◌==◌, Bool, true, false, not, ◌&&◌, ◌||◌, if◌then◌else◌, ℤ, List, [], ◌∷◌, replicate, Option, Some, None, is_some, codes}
 use Rattle.std.specs.Str.{bytes_eq}
-use Rattle.c_text.specs.Texts.{Text}
+use Rattle.rr_base.specs.Texts.{Text}
 use Rattle.c_tree.specs.declared.expr.PrefixOp.{PrefixOp}
 use Rattle.c_tree.specs.declared.expr.PrefixOp.TheVariants as prefix_op
 use Rattle.c_tree.specs.declared.expr.AssignOp.{AssignOp}

@@ -1,6 +1,6 @@
 //! The calls of the library: their names, and which arguments they want (C99 7, POSIX threads).
 ghost use Rattle.std.specs.Prelude.{◌≡◌, map};
-ghost use Rattle.c_text.specs.Texts.{entry_of};
+ghost use Rattle.rr_base.specs.Texts.{entry_of};
 ghost use Rattle.c_types.specs.Library as spec;
 
 use crate::types::BaseType;

@@ -1,7 +1,7 @@
 -- What expressions with commas between them and calls are, by what was made of their parts.
 use Rattle.std.proofs.Common.{◌≡◌, ℕ, ◌+◌, ◌<◌, Bool, false, List, [], ◌∷◌, ◌++◌, ◌&&◌, length, drop, get_or, Option, Some, None, map, if◌then◌else◌, refl, sym, ap, ◌∙◌, append_assoc}
 use Rattle.std.proofs.lemmas.List.{append-nil}
-use Rattle.c_text.specs.Texts.{Text}
+use Rattle.rr_base.specs.Texts.{Text}
 use Rattle.rr_base.specs.declared.position.Position.{Position}
 use Rattle.c_tree.specs.declared.expr.Expr.{Expr}
 use Rattle.c_tree.specs.Tree.{Exp, Exps, no_exp, and_exp, comma, call, listed}

@@ -1,7 +1,7 @@
 -- Calls of the library, of functions of the source, and through pointers to them (C99 6.5.2.2, 7.19, 7.20.3; POSIX.1-2017 threads). Attributes, formats
 -- and the function with which a thread starts are no operands of a call.
 use Rattle.std.specs.Prelude.{ℕ, ◌==◌, nat_lt, Bool, false, if◌then◌else◌, pos, List, [], ◌∷◌, ◌++◌, map, Option, Some, None}
-use Rattle.c_text.specs.Texts.{Text}
+use Rattle.rr_base.specs.Texts.{Text}
 use Rattle.word_semantics.specs.declared.library_call.LibraryCall.{LibraryCall}
 use Rattle.word_semantics.specs.declared.library_call.LibraryCall.TheVariants as call
 use Rattle.word_semantics.specs.declared.library_call.Piece.{Piece}

@@ -1,6 +1,6 @@
 -- The core tree of an expression (C99 6.5). One that is constant, and whose computing doesn't trap, is its value.
 use Rattle.std.specs.Prelude.{ℕ, Bool, true, false, if◌then◌else◌, pos, List, [], ◌∷◌, ◌++◌, Option, Some, None, Ok, Err}
-use Rattle.c_text.specs.Texts.{Text}
+use Rattle.rr_base.specs.Texts.{Text}
 use Rattle.word_semantics.specs.declared.operator.BinaryOp.TheVariants as flow
 use Rattle.c_tree.specs.Tree.{Exp, comma, assign, conditional, binary, prefix, sizeof_exp, sizeof_type, cast, index, member, arrow, post_increment, post_decrement, named, call, number, letter, text, null, paren, Exps, no_exp, and_exp}
 use Rattle.rr_base.specs.declared.position.Position.{Position}

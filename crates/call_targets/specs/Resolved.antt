@@ -1,6 +1,6 @@
 -- A core tree without pointers to functions: of each type of them becomes a function that chooses among the type's targets.
 use Rattle.std.specs.Prelude.{ℕ, ◌+◌, Bool, false, pos, List, [], ◌∷◌, ◌++◌, length, map, codes, decimal, Some}
-use Rattle.c_text.specs.Texts.{Text}
+use Rattle.rr_base.specs.Texts.{Text}
 use Rattle.rr_base.specs.declared.position.Position.{Position}
 use Rattle.word_semantics.specs.declared.operator.BinaryOp.TheVariants as binary_op
 use Rattle.core_tree.specs.Core.{Exp, number, null, register, load, binary, call, listed, Statement, block, compute, branch, gives, listed_statements, Function, Pointer, Program}

@@ -6,7 +6,7 @@ ghost use Rattle.call_targets.specs.Resolved as spec;
 
 use word_semantics::BinaryOp;
 use core_tree::{Call, CoreFunction, Operation, PointerType, Simple, Statement, Value};
-use number_text::push_numbered;
+use rr_base::push_numbered;
 use rr_base::{Bytes, List, Position, sum};
 use std::alloc::{AllocError, Global};
 

@@ -76,7 +76,7 @@ impl Answer {
 pub(crate) fn push_numbered(out: &mut Bytes, word: &[u8], n: u32) -> Result<(), AllocError>
     ensures { OnOk result (out.new ≡ out.old ++ (word.now ++ decimal n)) }
 {
-    number_text::push_numbered(out, word, u64::from(n))
+    rr_base::push_numbered(out, word, u64::from(n))
 }
 
 fn push_source_refused(

@@ -6,7 +6,7 @@
 ghost use Rattle.std.specs.Prelude.{◌≡◌, ◌≤◌, ◌^◌, List, length, Some};
 ghost use Rattle.sync_objects.specs.Setup.{SetupView, IsWithinLimits};
 ghost use Rattle.sync_objects.specs.declared.entry.Entry.{Entry};
-ghost use Rattle.c_text.specs.Texts.{Text};
+ghost use Rattle.rr_base.specs.Texts.{Text};
 ghost use Rattle.c_tree.specs.Tree.{Outer};
 ghost use Rattle.c_elaborate.specs.Whole.{core_of_source};
 ghost use Rattle.facts.specs.declared.pair.Pair.{Pair};

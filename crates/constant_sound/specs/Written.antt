@@ -1,6 +1,6 @@
 -- The core tree of a constant expression as it is written, in which nothing is folded.
 use Rattle.std.specs.Prelude.{◌≡◌, Bool, true, ◌&&◌, pos, Some, None}
-use Rattle.c_text.specs.Texts.{Text}
+use Rattle.rr_base.specs.Texts.{Text}
 use Rattle.c_tree.specs.Tree.{Exp, conditional, binary, prefix, cast, number, letter, paren}
 use Rattle.c_types.specs.Numbers.{fits}
 use Rattle.c_types.specs.Constants.{constant_named}

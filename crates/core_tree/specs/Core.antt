@@ -1,6 +1,6 @@
 -- The core tree as plain data. The types of the crate show as these: a list of trees of the same kind is data of its own.
 use Rattle.std.specs.Prelude.{ℕ, ℤ, Bool, List, [], ◌∷◌, Option}
-use Rattle.c_text.specs.Texts.{Text}
+use Rattle.rr_base.specs.Texts.{Text}
 use Rattle.rr_base.specs.declared.layout.CellKind.{CellKind}
 use Rattle.rr_base.specs.declared.layout.Site.{Site}
 use Rattle.word_semantics.specs.declared.library_call.LibraryCall.{LibraryCall}

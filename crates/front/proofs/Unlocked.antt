@@ -5,7 +5,7 @@ use Rattle.std.specs.List.{list_all}
 use Rattle.core_tree.specs.Core as core
 use Rattle.call_targets.specs.Resolved.{resolved}
 use Rattle.c_elaborate.specs.Whole.{core_of_source}
-use Rattle.c_text.specs.Texts.{Text}
+use Rattle.rr_base.specs.Texts.{Text}
 use Rattle.flow_code.specs.declared.code.Code.{Code}
 use Rattle.flow_lower.specs.Lowered.{function_code, lowered}
 use Rattle.weak_code.specs.Stripped.{is_plain}

@@ -1,6 +1,6 @@
 -- The code of a source.
 use Rattle.std.specs.Prelude.{◌≡◌, List}
-use Rattle.c_text.specs.Texts.{Text}
+use Rattle.rr_base.specs.Texts.{Text}
 use Rattle.c_tree.specs.Tree.{Outer}
 use Rattle.c_elaborate.specs.Whole.{core_of_source}
 use Rattle.flow_code.specs.declared.code.Code.{Code}

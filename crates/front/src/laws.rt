@@ -2,7 +2,7 @@
 ghost use Rattle.std.specs.Prelude.{◌≡◌, ◌≤◌, ◌^◌, ℕ, List, length};
 ghost use Rattle.core_tree.specs.Meaning.{run_of};
 ghost use Rattle.c_elaborate.specs.Whole.{core_of_source};
-ghost use Rattle.c_text.specs.Texts.{Text};
+ghost use Rattle.rr_base.specs.Texts.{Text};
 ghost use Rattle.c_tree.specs.Tree.{Outer};
 ghost use Rattle.flow_code.specs.Threads.{Thread};
 ghost use Rattle.lower_sound.specs.Follows.{Follows, IsAtStart};

@@ -7,7 +7,7 @@ use crate::lines::sorted;
 use word_semantics::site_at;
 use facts::Pair;
 use flow_code::Code;
-use number_text::push_numbered;
+use rr_base::push_numbered;
 use rr_base::{Bytes, List, Place};
 use std::alloc::{AllocError, Global};
 

@@ -19,7 +19,7 @@ use sync_objects::{Entry, ObjId};
 fn push_numbered(out: &mut Bytes, word: &[u8], n: u64) -> Result<(), AllocError>
     ensures { OnOk result (out.new ≡ out.old ++ (word.now ++ number_text n)) }
 {
-    number_text::push_numbered(out, word, n)
+    rr_base::push_numbered(out, word, n)
 }
 
 // A number after a word, alone in its line.

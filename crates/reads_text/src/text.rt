@@ -4,7 +4,7 @@ ghost use Rattle.std.specs.Prelude.{◌≡◌, ◌∷◌, [], ◌++◌, decimal,
 ghost use Rattle.reads_text.specs.Text as spec;
 
 use itoa::Buffer;
-use number_text::push_numbered;
+use rr_base::push_numbered;
 use rr_base::{Bytes, List};
 use std::alloc::{AllocError, Global};
 use thread_interpreter::Access;

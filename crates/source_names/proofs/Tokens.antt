@@ -7,7 +7,7 @@ use Rattle.std.specs.Str.{IsUtf8, IsAscii}
 use Rattle.std.proofs.lemmas.Str.{IsUtf8-from_ascii}
 use Rattle.std.proofs.lemmas.Str.Ascii.{IsAscii-nil, IsAscii-cons}
 use Rattle.std.proofs.lemmas.Bool.Decides.{nat_tests}
-use Rattle.c_text.specs.Texts.{Text, entry_of}
+use Rattle.rr_base.specs.Texts.{Text, entry_of}
 use Rattle.c_lexer.specs.Bytes.{is_blank, is_in_line, begins_name, continues_name}
 use Rattle.c_lexer.specs.Comments.{comment_by, comment_at}
 use Rattle.c_lexer.specs.Defined.{Defined}

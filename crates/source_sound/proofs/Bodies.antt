@@ -1,7 +1,7 @@
 -- What is used of the definitions of functions: each is sound where it has no fault and the names of the file lead to what is
 -- there.
 use Rattle.std.proofs.Common.{◌≡◌, ℕ, ◌≤◌, true, false, List, [], ◌∷◌, length, position, Option, Some, None, bytes_eq}
-use Rattle.c_text.specs.Texts.{Text, entry_of}
+use Rattle.rr_base.specs.Texts.{Text, entry_of}
 use Rattle.c_tree.specs.declared.name.Name.{Name}
 use Rattle.c_tree.specs.Tree.{Formal, Parts}
 use Rattle.c_types.specs.declared.library.StarredType.{StarredType}

@@ -1,7 +1,7 @@
 -- The calls of the library take arguments of the kinds that they want, and what a call gives is of the kind that is known.
 use Rattle.std.proofs.Common.{◌≡◌, ℕ, zero, suc, ◌==◌, nat_lt, Bool, true, false, not, ◌&&◌, List, [], ◌∷◌, replicate, Option, Some, None, refl, sym, ap, ◌∙◌, subst, arith}
 use Rattle.std.proofs.lemmas.Bool.{eqb-true, lt-ltb}
-use Rattle.c_text.specs.Texts.{Text}
+use Rattle.rr_base.specs.Texts.{Text}
 use Rattle.word_semantics.specs.declared.library_call.LibraryCall.TheVariants as library_call
 use Rattle.word_semantics.specs.Kinds.{library_kinds}
 use Rattle.c_tree.specs.Tree.{Exp, named, text, Exps, no_exp, and_exp}

@@ -1,7 +1,7 @@
 -- What is known where an expression stands fits the core tree: names lead to registers, objects and globals that are there
 -- and are of the kind that their types tell.
 use Rattle.std.specs.Prelude.{◌≡◌, ℕ, ◌<◌, ◌≤◌, Bool, true, false, List, [], ◌∷◌, Option, Some, None}
-use Rattle.c_text.specs.Texts.{Text}
+use Rattle.rr_base.specs.Texts.{Text}
 use Rattle.rr_base.specs.declared.position.Position.{Position}
 use Rattle.c_types.specs.declared.types.BaseType.{BaseType}
 use Rattle.c_types.specs.declared.types.BaseType.TheVariants as base

@@ -5,7 +5,7 @@ use Rattle.word_semantics.specs.Layouts.{layout_fits}
 use Rattle.source_sound.proofs.Signatures.{IsNumbered}
 use Rattle.c_types.specs.declared.types.BaseType.TheVariants as base
 use Rattle.c_types.specs.Types.{bare}
-use Rattle.c_text.specs.Texts.{Text, entry_of}
+use Rattle.rr_base.specs.Texts.{Text, entry_of}
 use Rattle.c_tree.specs.declared.name.Name.{Name}
 use Rattle.c_tree.specs.declared.ctype.Specifier.{Specifier}
 use Rattle.c_tree.specs.Tree.{Formal, Declared, Code, defined, prototype, Fields, fields, Outer, structure, function, objects, formal, formal_pointer}

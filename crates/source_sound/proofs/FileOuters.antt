@@ -1,7 +1,7 @@
 -- The definitions of a file without a fault, one after another: what is known after each, and the words of the globals.
 use Rattle.std.proofs.Common.{◌≡◌, ℕ, ◌+◌, ◌≤◌, Bool, true, List, [], ◌∷◌, ◌++◌, length, is_some, refl, sym, ap, ◌∙◌, subst, arith}
 use Rattle.rr_base.specs.declared.layout.CellKind.{CellKind}
-use Rattle.c_text.specs.Texts.{Text, entry_of}
+use Rattle.rr_base.specs.Texts.{Text, entry_of}
 use Rattle.c_tree.specs.declared.name.Name.{Name}
 use Rattle.c_tree.specs.declared.ctype.Specifier.{Specifier}
 use Rattle.c_tree.specs.Tree.{Formals, Fields, Code, defined, prototype, Outer, structure, function, objects}

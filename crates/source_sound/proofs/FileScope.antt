@@ -3,7 +3,7 @@
 use Rattle.std.proofs.Common.{◌≡◌, ℕ, Bool, true, false, not, ◌&&◌, ◌==◌, if◌then◌else◌, ℤ, List, [], ◌∷◌, ◌++◌, map, length, Option, Some, None, is_some, bytes_eq, refl, sym, ap, ◌∙◌, subst}
 use Rattle.std.proofs.lemmas.Bool.{or_parts}
 use Rattle.std.proofs.lemmas.Option.{same_Some, none-some}
-use Rattle.c_text.specs.Texts.{Text, entry_of}
+use Rattle.rr_base.specs.Texts.{Text, entry_of}
 use Rattle.c_tree.specs.declared.name.Name.{Name}
 use Rattle.c_tree.specs.declared.ctype.Specifier.{Specifier}
 use Rattle.c_tree.specs.Tree.{Formals, Declared, Code, defined, prototype}

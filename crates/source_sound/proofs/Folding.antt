@@ -1,7 +1,7 @@
 -- What is constant is a whole number, so that its value may stand for it.
 use Rattle.std.proofs.Common.{◌≡◌, ℕ, ◌==◌, Bool, true, false, ◌&&◌, if◌then◌else◌, ℤ, Option, Some, None, is_some, option_map, Ok, Err, refl, sym, ap, ◌∙◌, subst}
 use Rattle.std.proofs.lemmas.Bool.{and_from, eqb-true}
-use Rattle.c_text.specs.Texts.{Text}
+use Rattle.rr_base.specs.Texts.{Text}
 use Rattle.c_tree.specs.declared.ctype.Specifier.{Specifier}
 use Rattle.c_tree.specs.declared.ctype.Specifier.TheVariants as specifier
 use Rattle.c_tree.specs.declared.ctype.CType.{CType}

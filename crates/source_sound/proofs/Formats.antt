@@ -1,6 +1,6 @@
 -- A format has one piece that takes a number for each conversion.
 use Rattle.std.proofs.Common.{◌≡◌, ℕ, zero, suc, ◌+◌, ◌==◌, Bool, true, false, if◌then◌else◌, List, [], ◌∷◌, ◌++◌, replicate, Some, None, unwrap_or, refl, sym, ap, ◌∙◌, append-nil, add-one}
-use Rattle.c_text.specs.Texts.{Text}
+use Rattle.rr_base.specs.Texts.{Text}
 use Rattle.word_semantics.specs.declared.library_call.Piece.TheVariants as piece
 use Rattle.word_semantics.specs.Kinds.{format_kinds}
 use Rattle.c_types.specs.declared.format.Inside.{Inside}

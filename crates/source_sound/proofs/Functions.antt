@@ -3,7 +3,7 @@ use Rattle.std.proofs.Common.{◌≡◌, ℕ, ◌+◌, ◌-◌, ◌<◌, ◌≤�
 use Rattle.std.proofs.lemmas.List.{length-map}
 use Rattle.rr_base.specs.declared.layout.Site.{Site}
 use Rattle.c_names.specs.Sources.{param_name}
-use Rattle.c_text.specs.Texts.{Text}
+use Rattle.rr_base.specs.Texts.{Text}
 use Rattle.c_tree.specs.declared.name.Name.{Name}
 use Rattle.c_tree.specs.Tree.{Formal, formal, formal_pointer, Parts}
 use Rattle.c_types.specs.declared.types.ObjectType.{ObjectType}

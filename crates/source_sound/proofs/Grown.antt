@@ -1,6 +1,6 @@
 -- What is known only grows from one definition of a file to the next: names keep what they mean, and structs their members.
 use Rattle.std.proofs.Common.{◌≡◌, Bool, true, false, if◌then◌else◌, List, [], ◌∷◌, ◌++◌, Option, Some, refl, sym, ap, ◌∙◌, append_assoc, append-nil}
-use Rattle.c_text.specs.Texts.{Text, entry_of}
+use Rattle.rr_base.specs.Texts.{Text, entry_of}
 use Rattle.c_tree.specs.declared.name.Name.{Name}
 use Rattle.c_tree.specs.declared.ctype.Specifier.{Specifier}
 use Rattle.c_tree.specs.Tree.{Declared, Object, Fields, Code, defined, prototype, Outer, structure, function, objects}

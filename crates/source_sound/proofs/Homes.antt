@@ -7,7 +7,7 @@ use Rattle.rr_base.specs.declared.layout.CellKind.{CellKind}
 use Rattle.rr_base.specs.declared.layout.Layout.{Layout}
 use Rattle.word_semantics.specs.Pointers.{site_at, base_at}
 use Rattle.word_semantics.specs.Cells.{size_of, size_in}
-use Rattle.c_text.specs.Texts.{Text, entry_of}
+use Rattle.rr_base.specs.Texts.{Text, entry_of}
 use Rattle.c_types.specs.Scopes.{with_name}
 use Rattle.c_spots.specs.Spots.{Holder, a_global, a_local, an_allocation, Spot}
 use Rattle.c_sites.specs.Sites.{site_of, layout_by}

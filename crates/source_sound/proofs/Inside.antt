@@ -1,7 +1,7 @@
 -- Inside a function the names that are seen and their numbers hang together: each number leads to a register or an object
 -- that fits the type of the name.
 use Rattle.std.proofs.Common.{◌≡◌, ℕ, ◌<◌, ◌≤◌, Bool, true, false, if◌then◌else◌, List, [], ◌∷◌, length, position, Option, Some, None, bytes_eq, refl, sym, ◌∙◌, subst}
-use Rattle.c_text.specs.Texts.{Text, entry_of}
+use Rattle.rr_base.specs.Texts.{Text, entry_of}
 use Rattle.c_types.specs.declared.types.ObjectType.{ObjectType}
 use Rattle.c_types.specs.declared.names.Signature.{Signature}
 use Rattle.c_types.specs.Constants.{constant_named}

@@ -1,6 +1,6 @@
 -- The core tree of a source without a fault is sound.
 use Rattle.std.proofs.Common.{◌≡◌, ℕ, ◌+◌, ◌^◌, ◌≤◌, false, position, bytes_eq, List, [], ◌∷◌, length, Option, Some, None, sym, ap, ◌∙◌, subst}
-use Rattle.c_text.specs.Texts.{Text, entry_of}
+use Rattle.rr_base.specs.Texts.{Text, entry_of}
 use Rattle.c_tree.specs.Tree.{Outer}
 use Rattle.c_types.specs.declared.library.StarredType.{StarredType}
 use Rattle.c_types.specs.Scopes.{Known, Scope, Meaning, variable, function_of, seen_in, or_else, opened}

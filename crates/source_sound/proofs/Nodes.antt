@@ -1,7 +1,7 @@
 -- What stands for each kind of expression, by what stands for its parts.
 use Rattle.std.proofs.Common.{◌≡◌, ℕ, Bool, true, false, not, ◌&&◌, ◌||◌, if◌then◌else◌, ℤ, pos, [], ◌∷◌, Option, Some, None, is_some, unwrap_or, Ok, refl, ap}
 use Rattle.std.proofs.lemmas.Bool.{and_from}
-use Rattle.c_text.specs.Texts.{Text}
+use Rattle.rr_base.specs.Texts.{Text}
 use Rattle.c_tree.specs.declared.expr.AssignOp.{AssignOp}
 use Rattle.c_tree.specs.declared.expr.PrefixOp.{PrefixOp}
 use Rattle.c_tree.specs.declared.expr.PrefixOp.TheVariants as prefix_op

@@ -1,7 +1,7 @@
 -- Each formal and local of a function that is kept in cells has a site: it is one of the function's spots.
 use Rattle.std.proofs.Common.{◌≡◌, ℕ, zero, suc, ◌+◌, Bool, true, false, ◌||◌, if◌then◌else◌, List, [], ◌∷◌, ◌++◌, length, map, Some, None, slice_get, refl, subst, arith}
 use Rattle.rr_base.specs.declared.layout.Site.{Site}
-use Rattle.c_text.specs.Texts.{Text}
+use Rattle.rr_base.specs.Texts.{Text}
 use Rattle.c_tree.specs.declared.ctype.Specifier.{Specifier}
 use Rattle.c_tree.specs.Tree.{Formal, formal, formal_pointer, Declared, declared, declared_pointer, Object, plain, initialised, Declares, declares, Start, start_declares, start_computes, Statement, block, compute, break_at, continue_at, gives, branch, branch_else, while_loop, do_loop, for_loop, Parts, no_part, and_declares, and_does}
 use Rattle.c_types.specs.Scopes.{Known, opened}

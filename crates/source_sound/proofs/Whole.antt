@@ -8,7 +8,7 @@ use Rattle.rr_base.specs.declared.layout.Site.{Site}
 use Rattle.word_semantics.specs.Pointers.{base_at}
 use Rattle.word_semantics.specs.Cells.{size_of}
 use Rattle.word_semantics.specs.Layouts.{sites_fit}
-use Rattle.c_text.specs.Texts.{Text, entry_of}
+use Rattle.rr_base.specs.Texts.{Text, entry_of}
 use Rattle.c_tree.specs.Tree.{Outer}
 use Rattle.c_types.specs.Scopes.{Known}
 use Rattle.c_names.specs.Known.{known_at_start}

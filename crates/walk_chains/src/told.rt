@@ -7,7 +7,7 @@ ghost use Rattle.walk_chains.specs.Telling.{TellsChain};
 use chain_report::{Found, Point, find};
 use core_run::walk;
 use lock_sound::{Weakened, law_weakened_runs};
-use number_text::push_numbered;
+use rr_base::push_numbered;
 use order_log::Log;
 use job_outcomes::Outcome;
 use rr_base::{Bytes, List};

@@ -8,7 +8,7 @@ ghost use Rattle.walk_hits.specs.Telling.{TellsHit};
 use command_line::Answer;
 use core_run::Walk;
 use flow_code::Code;
-use number_text::push_numbered;
+use rr_base::push_numbered;
 use order_log::Log;
 use job_outcomes::Outcome;
 use reads_text::push_value;

@@ -9,7 +9,7 @@ use std::alloc::{AllocError, Global};
 fn push_numbered(out: &mut Bytes, word: &[u8], number: u32) -> Result<(), AllocError>
     ensures { OnOk result (out.new ≡ out.old ++ (word.now ++ decimal number)) }
 {
-    number_text::push_numbered(out, word, u64::from(number))
+    rr_base::push_numbered(out, word, u64::from(number))
 }
 
 fn push_function(out: &mut Bytes, number: u32) -> Result<(), AllocError>

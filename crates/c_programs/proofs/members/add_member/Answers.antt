@@ -1,7 +1,7 @@
 use Rattle.std.proofs.Common.{◌≡◌, ap, sym, ◌∙◌, false, is_some}
 use Rattle.std.specs.Str.{bytes_eq}
 use Rattle.indexmap.proofs.CallerLemmas.{insert_entry-new}
-use Rattle.c_text.specs.Texts.{entry_of}
+use Rattle.rr_base.specs.Texts.{entry_of}
 use Rattle.c_programs.specs.Members.{shown_members}
 use Rattle.c_programs.proofs.ByName.{lookup-shown_members, shown_members-pushed, with_name-new, no_entry}
 use Rattle.c_programs.proofs.members.add_member.Goals as goal

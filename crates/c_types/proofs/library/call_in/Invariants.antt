@@ -1,5 +1,5 @@
 use Rattle.std.proofs.Common.{◌≡◌, length, map}
-use Rattle.c_text.specs.Texts.{entry_of}
+use Rattle.rr_base.specs.Texts.{entry_of}
 use Rattle.c_types.proofs.library.call_in.Given as goal
 
 abbrev pub invariant-loop-table : goal.invariant-loop-table

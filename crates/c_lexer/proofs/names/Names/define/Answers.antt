@@ -2,7 +2,7 @@ use Rattle.std.proofs.Common.{ap, ◌∙◌, map, ◌++◌, ◌∷◌, [], ℤ, 
 use Rattle.std.proofs.Math.Facts.{to_z-of_z}
 use Rattle.std.specs.Str.{bytes_eq}
 use Rattle.indexmap.proofs.CallerLemmas.{insert_entry-new}
-use Rattle.c_text.specs.Texts.{entry_of}
+use Rattle.rr_base.specs.Texts.{entry_of}
 use Rattle.c_lexer.proofs.Values.{lookup-entry_of, map-pushed, shown}
 use Rattle.c_lexer.proofs.names.Names.define.Goals as goal
 

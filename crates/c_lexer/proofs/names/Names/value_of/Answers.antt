@@ -1,5 +1,5 @@
 use Rattle.std.proofs.Common.{ap, ◌∙◌}
-use Rattle.c_text.specs.Texts.{entry_of}
+use Rattle.rr_base.specs.Texts.{entry_of}
 use Rattle.c_lexer.proofs.Values.{lookup-entry_of}
 use Rattle.c_lexer.proofs.names.Names.value_of.Goals as goal
 

@@ -1,8 +1,8 @@
 // A number after a word.
 ghost use Rattle.std.specs.Prelude.{◌≡◌, ◌++◌, decimal, OnOk};
 
+use crate::Bytes;
 use itoa::Buffer;
-use rr_base::Bytes;
 use std::alloc::AllocError;
 
 /// A word, and after it a number in decimal without leading zeros.
