@@ -51,9 +51,9 @@ use Rattle.run_theory.specs.Steps.{State}
 use Rattle.lock_ownership.specs.Holders.{holds_stripe}
 use Rattle.lock_ownership.specs.ThreadStripes.{IsOfMemory}
 use Rattle.guard_paths.proofs.Walks.{way, numbers}
-use Rattle.guard_stripes.proofs.Wants.{whole_wants}
-use Rattle.loop_stripes.specs.Settings.{IsSettingOf}
-use Rattle.loop_stripes.proofs.Wanting.{loop_wants}
+use Rattle.region_stripes.proofs.Wants.{whole_wants}
+use Rattle.region_stripes.specs.Settings.{IsSettingOf}
+use Rattle.region_stripes.proofs.Wanting.{loop_wants}
 use Rattle.open_regions.specs.OpenStripes.{is_exit, setting_of, HoldsItsOpen}
 use Rattle.open_regions.proofs.Ends.{open_stripes}
 use Rattle.race_free.proofs.Locked.{HasLock}

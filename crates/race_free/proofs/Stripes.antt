@@ -11,7 +11,7 @@ use Rattle.flow_code.specs.declared.code.Code.{Code}
 use Rattle.flow_code.specs.declared.code.LockInfo.{LockInfo}
 use Rattle.flow_code.specs.Stripes.{guards, lock_guards, stripe_at, class_in}
 use Rattle.facts.specs.PointsTo.{Tables, place, element_in, element_of}
-use Rattle.guard_stripes.proofs.Stripes.{eighth_small}
+use Rattle.region_stripes.proofs.Stripes.{eighth_small}
 use Rattle.weak_lock_facts.specs.declared.grain.Grained.{Grained}
 use Rattle.weak_code.specs.WeakLocks.{lock_for, locks_for}
 

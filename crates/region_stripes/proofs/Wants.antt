@@ -37,10 +37,10 @@ use Rattle.guard_paths.specs.Guards.{IsSeat, Guards}
 use Rattle.guard_paths.specs.Walked.{Opening, Walked}
 use Rattle.guard_paths.proofs.Covered.{IsReady, plain_here, order_here, nested_here, weakened_at}
 use Rattle.guard_paths.proofs.Guarded.{contains_in}
-use Rattle.guard_stripes.specs.Ranged.{is_ranged}
-use Rattle.guard_stripes.proofs.Alone.{IsShort, all_short}
-use Rattle.guard_stripes.proofs.Stripes.{among_in, stripe_is}
-use Rattle.guard_stripes.proofs.Taken.{taken_now}
+use Rattle.region_stripes.specs.Ranged.{is_ranged}
+use Rattle.region_stripes.proofs.Alone.{IsShort, all_short}
+use Rattle.region_stripes.proofs.Stripes.{among_in, stripe_is}
+use Rattle.region_stripes.proofs.Taken.{taken_now}
 
 module _ (code : Code) (t : Tables) (vs : List Pair) (rs : List Range) (profile : Profile) (rows : List Grained) (ready : IsReady code t vs rs profile rows) (f : ℕ) (fn : Function) (at : slice_get code.functions f ≡ Some fn) (a : RacyAccess) (own : Contains (racy_accesses code t (places_in vs) rs rows f) a) where
   abbrev Own : List RacyAccess

@@ -21,7 +21,7 @@ use Rattle.loop_bounds.proofs.Steps.{both_true, kept, as_long}
 use Rattle.loop_bounds.proofs.Turning.{far, stays}
 use Rattle.loop_bounds.proofs.Pointing.{IsTurn}
 use Rattle.loop_bounds.proofs.Raising.{raised}
-use Rattle.loop_stripes.specs.Inside.{Inside, enters, goes}
+use Rattle.region_stripes.specs.Inside.{Inside, enters, goes}
 
 -- no instruction of the loop assigns the register
 abbrev pub Never : List Instr → LoopInfo → ℕ → Type 0

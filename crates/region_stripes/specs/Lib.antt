@@ -1,3 +1,4 @@
 pub mod InRange
 pub mod Inside
+pub mod Ranged
 pub mod Settings

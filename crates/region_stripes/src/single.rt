@@ -26,7 +26,7 @@ ghost use Rattle.weak_valid.specs.Apart.{loops_are_apart};
 ghost use Rattle.guard_paths.specs.LoopsClosed.{loops_are_closed};
 ghost use Rattle.guard_paths.specs.Guards.{IsSeat, Guards};
 ghost use Rattle.guard_paths.specs.Walked.{Opening, Walked};
-ghost use Rattle.guard_stripes.specs.Ranged.{is_ranged};
+ghost use Rattle.region_stripes.specs.Ranged.{is_ranged};
 
 /// Where a frame comes to an access that may race, each open region that guards it, but one of a loop, takes with the
 /// registers of its Take the stripe of the cell to which the access's pointer points.

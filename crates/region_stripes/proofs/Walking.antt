@@ -28,7 +28,7 @@ use Rattle.guard_paths.proofs.Passing.{AreNested, Here, at_weak, at_plain, stand
 use Rattle.guard_paths.proofs.Covered.{not_open}
 use Rattle.guard_paths.proofs.Walks.{numbers, way, weak_goes, in_numbers, of_closed, plain_opened, plain_next}
 use Rattle.guard_paths.proofs.Standing.{times, has_test, returns, stays}
-use Rattle.loop_stripes.specs.Inside.{Inside, enters, goes}
+use Rattle.region_stripes.specs.Inside.{Inside, enters, goes}
 
 -- ---- steps and lists
 

@@ -14,7 +14,7 @@ use Rattle.flow_code.specs.Stripes.{stripe_at, class_in, lock_guards, guards, po
 use Rattle.word_semantics.specs.Pointers.{site_at, known, moved, moved_by}
 use Rattle.word_semantics.specs.Values.{fits}
 use Rattle.weak_valid.proofs.Tests.{both, two}
-use Rattle.loop_stripes.proofs.Fitting.{IsAlike}
+use Rattle.region_stripes.proofs.Fitting.{IsAlike}
 
 any_from_has : (p : ℕ → Bool) (m k n : ℕ) → k ≤ n → n < k + m → p n ≡ true → any_from p m k ≡ true
 any_from_has p zero k n le lt h = absurd (omega (arith, le, lt))

@@ -32,9 +32,9 @@ ghost use Rattle.guard_paths.specs.Guards.{Guards, IsSeat};
 ghost use Rattle.guard_paths.specs.LoopsClosed.{loops_are_closed};
 ghost use Rattle.guard_paths.specs.Walked.{Opening, Walked};
 ghost use Rattle.loop_bounds.specs.Turns.{Setting, AreFit};
-ghost use Rattle.loop_stripes.specs.Inside.{Inside};
-ghost use Rattle.loop_stripes.specs.InRange.{IsInRange};
-ghost use Rattle.loop_stripes.specs.Settings.{IsSettingOf};
+ghost use Rattle.region_stripes.specs.Inside.{Inside};
+ghost use Rattle.region_stripes.specs.InRange.{IsInRange};
+ghost use Rattle.region_stripes.specs.Settings.{IsSettingOf};
 
 /// In every turn of a counted loop a register that the loop keeps has what it had where the loop was entered.
 pub fn law_kept_in_runs()

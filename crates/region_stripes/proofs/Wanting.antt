@@ -55,16 +55,16 @@ use Rattle.guard_paths.proofs.Covered.{IsReady, plain_here, order_here, nested_h
 use Rattle.guard_paths.proofs.Guarded.{In, contains_in}
 use Rattle.guard_paths.proofs.Nested.{any_at}
 use Rattle.guard_paths.proofs.Spread.{HasRow, have_rows}
-use Rattle.loop_stripes.specs.InRange.{HasBase, IsInRange}
-use Rattle.loop_stripes.specs.Inside.{Inside}
-use Rattle.loop_stripes.specs.Settings.{IsSettingOf}
-use Rattle.loop_stripes.proofs.Fitting.{are_fit, address_here, IsAlike, address_alike}
-use Rattle.loop_stripes.proofs.Innermost.{round_it, same_mark}
-use Rattle.loop_stripes.proofs.Inward.{inside_long}
-use Rattle.loop_stripes.proofs.Ranged.{IsRangeOf, range_of, range_inside}
-use Rattle.loop_stripes.proofs.Regions.{of_some, IsFound, all_found, same_through}
-use Rattle.loop_stripes.proofs.Striped.{IsMovedTo, moved_is, known_same, range_has}
-use Rattle.loop_stripes.proofs.Walking.{inside_at}
+use Rattle.region_stripes.specs.InRange.{HasBase, IsInRange}
+use Rattle.region_stripes.specs.Inside.{Inside}
+use Rattle.region_stripes.specs.Settings.{IsSettingOf}
+use Rattle.region_stripes.proofs.Fitting.{are_fit, address_here, IsAlike, address_alike}
+use Rattle.region_stripes.proofs.Innermost.{round_it, same_mark}
+use Rattle.region_stripes.proofs.Inward.{inside_long}
+use Rattle.region_stripes.proofs.Ranged.{IsRangeOf, range_of, range_inside}
+use Rattle.region_stripes.proofs.Regions.{of_some, IsFound, all_found, same_through}
+use Rattle.region_stripes.proofs.Striped.{IsMovedTo, moved_is, known_same, range_has}
+use Rattle.region_stripes.proofs.Walking.{inside_at}
 
 known_is : (sites : List Site) (u : ℕ) → site_of u ≤ length sites → known sites u ≡ u
 known_is sites u le = let t : nat_le (site_of u) (length sites) ≡ true = grind (arith, nat_tests, le) in ap (λ b. if b then u else u % 2 ^ 54) t

@@ -25,7 +25,7 @@ use Rattle.loop_bounds.proofs.Borne.{cond_some, chained, kept_there}
 use Rattle.loop_bounds.proofs.Turning.{stays}
 use Rattle.loop_bounds.proofs.Making.{made, IsLastMaker, last_made, made_value}
 use Rattle.loop_bounds.proofs.Pointing.{IsTurn, given, past_mark, index_word, address_word, moved_act, single, accesses}
-use Rattle.loop_stripes.specs.InRange.{HasBase}
+use Rattle.region_stripes.specs.InRange.{HasBase}
 
 -- a register that is a base is one that the loop keeps
 abbrev pub KeepsBase : List Instr → LoopInfo → Base → Type 0

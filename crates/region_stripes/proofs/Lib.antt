@@ -1,3 +1,4 @@
+pub mod Alone
 pub mod Counting
 pub mod Elements
 pub mod Fitting
@@ -6,5 +7,8 @@ pub mod Inward
 pub mod Ranged
 pub mod Regions
 pub mod Striped
+pub mod Stripes
+pub mod Taken
 pub mod Walking
 pub mod Wanting
+pub mod Wants

@@ -27,12 +27,12 @@ use Rattle.loop_bounds.proofs.Steps.{both_true, not_true}
 use Rattle.loop_bounds.proofs.Borne.{cond_some, kept_there, borne_out}
 use Rattle.loop_bounds.proofs.Pointing.{IsTurn}
 use Rattle.weak_valid.proofs.RegionsFit.{counted_loop}
-use Rattle.loop_stripes.specs.Inside.{Inside}
-use Rattle.loop_stripes.specs.InRange.{HasBase, IsInRange}
-use Rattle.loop_stripes.proofs.Counting.{before_bound, access_past, access_before}
-use Rattle.loop_stripes.proofs.Elements.{KeepsBase, pointer_word}
-use Rattle.loop_stripes.proofs.Innermost.{round_it}
-use Rattle.loop_stripes.proofs.Inward.{inside_long, inside_kept, rises, in_turn}
+use Rattle.region_stripes.specs.Inside.{Inside}
+use Rattle.region_stripes.specs.InRange.{HasBase, IsInRange}
+use Rattle.region_stripes.proofs.Counting.{before_bound, access_past, access_before}
+use Rattle.region_stripes.proofs.Elements.{KeepsBase, pointer_word}
+use Rattle.region_stripes.proofs.Innermost.{round_it}
+use Rattle.region_stripes.proofs.Inward.{inside_long, inside_kept, rises, in_turn}
 
 pub kept_inside : (s : Setting) (fn : Function) (l : LoopInfo) (start : List ℕ) (r k : ℕ) (rs : List ℕ) → is_counted fn l ≡ true → keeps fn.instrs l r ≡ true → Inside s fn.instrs l start k rs → register rs r ≡ register start r
 kept_inside s fn l start r k rs h e i = inside_kept s fn.instrs l (borne_out fn l h) start r (λ n low high. kept_there fn.instrs l r n e low high) k rs i

@@ -1,4 +1,0 @@
-pub mod Alone
-pub mod Stripes
-pub mod Taken
-pub mod Wants

@@ -1,5 +1,0 @@
-use Rattle.loop_stripes.proofs.Ranged.{kept_inside}
-use Rattle.loop_stripes.proofs.laws.law_kept_in_runs.Goals as goal
-
-pub returns : goal.returns
-returns c = kept_inside

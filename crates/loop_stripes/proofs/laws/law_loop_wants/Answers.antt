@@ -1,5 +1,0 @@
-use Rattle.loop_stripes.proofs.Wanting.{loop_wants}
-use Rattle.loop_stripes.proofs.laws.law_loop_wants.Goals as goal
-
-pub returns : goal.returns
-returns c = loop_wants

@@ -1,5 +1,0 @@
-use Rattle.loop_stripes.proofs.Ranged.{in_range}
-use Rattle.loop_stripes.proofs.laws.law_range_in_runs.Goals as goal
-
-pub returns : goal.returns
-returns c = in_range
