@@ -7,9 +7,9 @@ ghost use Rattle.c_grammar.specs.Grammar.{name_place};
 ghost use Rattle.c_grammar.specs.Phrase as phrase;
 ghost use Rattle.c_grammar.specs.Rules as rules;
 
-use crate::declaration::{declarator, lengths, more_objects, object_past};
-use crate::param::{params, pointer};
 use crate::statement::parts;
+use c_declarations::declaration::{declarator, lengths, more_objects, object_past};
+use c_declarations::param::{params, pointer};
 use c_lexer::{Punct, Token, Word};
 use c_parse_rules::head::{Head, outer_head};
 use c_parse_rules::token::{Stop, begins_with, name, next_punct, next_word, punct};

@@ -9,7 +9,7 @@ ghost use Rattle.c_grammar.specs.Phrase as phrase;
 ghost use Rattle.c_grammar.specs.Rules as rules;
 ghost use Rattle.c_parser.specs.Simple.{MaySimply};
 
-use crate::declaration::declaration;
+use c_declarations::declaration::declaration;
 use c_expressions::expression::{expression, first_place, maybe_expression};
 use c_lexer::{Punct, Token, Word};
 use c_parse_rules::token::{Stop, begins_type, next_punct, next_word, punct, word};

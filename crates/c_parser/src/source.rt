@@ -79,7 +79,7 @@ fn fault_of(stop: Stop<'_>, tokens: &[Token]) -> ParseFault
 /// The syntax tree of a C source (C99 6.9) by its tokens, as [`c_lexer::tokens`] gives them.
 ///
 /// # Errors
-/// The first token that ends every hope of a tree: `OutOfProfile` where it is a word that the profile refuses, else
+/// The first token that fits no tree: `OutOfProfile` where it is a word that the profile refuses, else
 /// `Syntax`; `Nesting` where it stands more than 256 levels deep. `Syntax` at the byte after the last token where the
 /// source ends too early. `OutOfMemory` if the tree doesn't fit into memory.
 pub fn parse(alloc: Global, tokens: &List<Token>) -> Result<Program, ParseFault>

@@ -9,8 +9,8 @@ ghost use Rattle.c_grammar.specs.Phrase as phrase;
 ghost use Rattle.c_grammar.specs.Rules as rules;
 
 use crate::compose;
-use crate::declaration::declaration;
 use crate::short::{computed, do_end, for_head_of, simple, test};
+use c_declarations::declaration::declaration;
 use c_lexer::{Punct, Token, Word};
 use c_parse_rules::token::{Stop, begins_type, begins_with, next_punct, next_word, punct};
 use c_tree::{Expr, Part, Stmt};

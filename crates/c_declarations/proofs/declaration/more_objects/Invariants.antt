@@ -3,7 +3,7 @@ use Rattle.c_tree.specs.View.{object_of}
 use Rattle.c_parse_rules.specs.Gives.{limit, lexemes}
 use Rattle.c_grammar.specs.Phrase as phrase
 use Rattle.c_grammar.specs.Rules.{read}
-use Rattle.c_parser.proofs.declaration.more_objects.Given as goal
+use Rattle.c_declarations.proofs.declaration.more_objects.Given as goal
 
 -- what is read so far and the rest make the whole
 abbrev pub invariant-loop-found : goal.invariant-loop-found

@@ -3,7 +3,7 @@ use Rattle.c_tree.specs.View.{init_of}
 use Rattle.c_parse_rules.specs.Gives.{limit, lexemes}
 use Rattle.c_grammar.specs.Phrase as phrase
 use Rattle.c_grammar.specs.Rules.{read}
-use Rattle.c_parser.proofs.declaration.+initials.Given as goal
+use Rattle.c_declarations.proofs.declaration.+initials.Given as goal
 
 abbrev pub decreases-initial : goal.decreases-initial
 decreases-initial l = 4 * (257 - l.level)

@@ -6,7 +6,7 @@ use Rattle.c_parse_rules.specs.Gives.{lexemes}
 use Rattle.c_grammar.specs.Phrase as phrase
 use Rattle.c_parse_rules.proofs.Rounds.{no_longer, params_turn, params_stuck, params_over}
 use Rattle.c_parse_rules.proofs.HeadSteps.{stops_from}
-use Rattle.c_parser.proofs.param.+params.Goals as goal
+use Rattle.c_declarations.proofs.param.+params.Goals as goal
 
 pub more_params-params-preserved : goal.more_params-params-preserved
 more_params-params-preserved t c =

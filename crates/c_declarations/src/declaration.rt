@@ -19,7 +19,7 @@ use rr_base::{List, Position};
 use std::alloc::Global;
 
 #[tactic(auto, using(c_parse_rules::proofs::Steps::declarator_rules))]
-pub(crate) fn declarator(
+pub fn declarator(
     alloc: Global,
     level: u32,
     tokens: &[Token],
@@ -57,7 +57,7 @@ pub(crate) fn declarator(
 
 /// The lengths of arrays in brackets, each pair one level above the one before it.
 #[tactic(auto, using(c_parse_rules::proofs::Steps::lengths_rules))]
-pub(crate) fn lengths(
+pub fn lengths(
     alloc: Global,
     level: u32,
     tokens: &[Token],
@@ -80,11 +80,7 @@ pub(crate) fn lengths(
 
 #[cycle(initials)]
 #[tactic(auto, using(c_parse_rules::proofs::Steps::initial_rules))]
-pub(crate) fn initial(
-    alloc: Global,
-    level: u32,
-    tokens: &[Token],
-) -> Result<(Initial, &[Token]), Stop<'_>>
+pub fn initial(alloc: Global, level: u32, tokens: &[Token]) -> Result<(Initial, &[Token]), Stop<'_>>
     requires { level ≤ limit }
     ensures { Reads (phrase.initial level) (λ i. init_of i) tokens.now result }
 {
@@ -158,7 +154,7 @@ fn object(alloc: Global, level: u32, tokens: &[Token]) -> Result<(Item, &[Token]
 
 /// An object after its declarator.
 #[tactic(auto, using(c_parse_rules::proofs::Steps::object_after_rules))]
-pub(crate) fn object_past(
+pub fn object_past(
     alloc: Global,
     level: u32,
     declarator: Declarator,
@@ -183,7 +179,7 @@ pub(crate) fn object_past(
 
 /// The objects with a comma before each, after those that were found.
 #[tactic(auto, using(c_parse_rules::proofs::Steps::more_objects_rules))]
-pub(crate) fn more_objects(
+pub fn more_objects(
     alloc: Global,
     level: u32,
     mut found: List<Item>,
@@ -202,7 +198,7 @@ pub(crate) fn more_objects(
 }
 
 #[tactic(auto, using(c_parse_rules::proofs::Steps::declaration_rules))]
-pub(crate) fn declaration(
+pub fn declaration(
     alloc: Global,
     level: u32,
     tokens: &[Token],

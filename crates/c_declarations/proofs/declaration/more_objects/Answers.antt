@@ -4,7 +4,7 @@ use Rattle.c_tree.specs.View.{object_of}
 use Rattle.c_parse_rules.specs.Gives.{lexemes}
 use Rattle.c_grammar.specs.Phrase as phrase
 use Rattle.c_parse_rules.proofs.Turns.{no_longer, more_objects_turn}
-use Rattle.c_parser.proofs.declaration.more_objects.Goals as goal
+use Rattle.c_declarations.proofs.declaration.more_objects.Goals as goal
 
 pub loop-found-smaller : goal.loop-found-smaller
 loop-found-smaller c =

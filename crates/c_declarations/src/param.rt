@@ -127,11 +127,7 @@ fn params_from(found: List<Param>) -> Params
 /// Up to the parenthesis that closes them.
 #[cycle(params)]
 #[tactic(auto, using(c_parse_rules::proofs::Steps::params_rules))]
-pub(crate) fn params(
-    alloc: Global,
-    level: u32,
-    tokens: &[Token],
-) -> Result<(Params, &[Token]), Stop<'_>>
+pub fn params(alloc: Global, level: u32, tokens: &[Token]) -> Result<(Params, &[Token]), Stop<'_>>
     requires { level ≤ limit }
     ensures { Reads (phrase.params level) (λ x. formals_of x) tokens.now result }
 {
@@ -148,7 +144,7 @@ pub(crate) fn params(
 /// A pointer to a function after its first parenthesis: the name and the parameters, which stand one level deeper.
 #[cycle(params)]
 #[tactic(auto, using(c_parse_rules::proofs::Steps::pointer_rules))]
-pub(crate) fn pointer(
+pub fn pointer(
     alloc: Global,
     level: u32,
     tokens: &[Token],

@@ -1,7 +1,7 @@
 use Rattle.std.proofs.Common.{◌≢◌, length, sym, arith}
 use Rattle.std.proofs.lemmas.Grind.{common_steps}
-use Rattle.c_parser.proofs.Alone.{not_one}
-use Rattle.c_parser.proofs.param.is_void_alone.Goals as goal
+use Rattle.c_declarations.proofs.Alone.{not_one}
+use Rattle.c_declarations.proofs.param.is_void_alone.Goals as goal
 
 pub returns-in_default-3 : goal.returns-in_default-3
 returns-in_default-3 c =

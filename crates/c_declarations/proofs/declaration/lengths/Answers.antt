@@ -7,7 +7,7 @@ use Rattle.c_parse_rules.specs.Gives.{lexemes}
 use Rattle.c_grammar.specs.Phrase as phrase
 use Rattle.c_grammar.specs.Parse.{sign}
 use Rattle.c_parse_rules.proofs.Turns.{no_longer, shorter, lengths_turn, lengths_stop}
-use Rattle.c_parser.proofs.declaration.lengths.Goals as goal
+use Rattle.c_declarations.proofs.declaration.lengths.Goals as goal
 
 pub loop-found-preserved : goal.loop-found-preserved
 loop-found-preserved c =

@@ -3,7 +3,7 @@ use Rattle.c_tree.specs.View.{formal_of}
 use Rattle.c_parse_rules.specs.Gives.{limit, lexemes}
 use Rattle.c_grammar.specs.Phrase as phrase
 use Rattle.c_grammar.specs.Rules.{read}
-use Rattle.c_parser.proofs.param.+params.Given as goal
+use Rattle.c_declarations.proofs.param.+params.Given as goal
 
 abbrev pub decreases-params : goal.decreases-params
 decreases-params l = 5 * (257 - l.level) + 4

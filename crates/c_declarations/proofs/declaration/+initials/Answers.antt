@@ -4,7 +4,7 @@ use Rattle.c_tree.specs.View.{init_of}
 use Rattle.c_parse_rules.specs.Gives.{lexemes}
 use Rattle.c_grammar.specs.Phrase as phrase
 use Rattle.c_parse_rules.proofs.Turns.{no_longer, more_initials_turn}
-use Rattle.c_parser.proofs.declaration.+initials.Goals as goal
+use Rattle.c_declarations.proofs.declaration.+initials.Goals as goal
 
 pub more_initials-loop-found-smaller : goal.more_initials-loop-found-smaller
 more_initials-loop-found-smaller t c =
