@@ -1,5 +1,5 @@
 -- The part of one entry, from its thread's own steps and the entry's operation.
-use Rattle.std.proofs.Common.{◌≡◌, ℕ, zero, suc, ◌<◌, ◌≤◌, ◌-◌, Bool, true, false, List, [], ◌∷◌, length, drop, Some, None, refl, sym, ap, ◌∙◌, arith}
+use Rattle.std.proofs.Common.{◌≡◌, ℕ, zero, suc, ◌<◌, ◌≤◌, ◌-◌, Bool, true, false, List, [], ◌∷◌, length, drop, Some, None, refl, sym, ap, ◌∙◌, subst, arith}
 use Rattle.std.specs.Prelude.{slice_get}
 use Rattle.std.specs.Option.{option_and_then}
 use Rattle.std.proofs.lemmas.List.{length-map}
@@ -15,7 +15,9 @@ use Rattle.core_run.specs.Kept.{AreSound}
 use Rattle.core_run.specs.Machine.{Told, machine}
 use Rattle.core_run.specs.Parts.{KeepsObjects}
 use Rattle.core_run.specs.Walks.{pieces_of, joined}
-use Rattle.core_run.specs.Shown.{running_thread, told_thread, IsShown, GoesTo, EntryStep, PartStep}
+use Rattle.core_run.specs.Outside.{GoesOutside, IsOutside}
+use Rattle.core_run.specs.Shown.{running_thread, told_thread, IsShown, GoesTo, EntryStep, PartStep, IsStuck}
+use Rattle.core_run.proofs.LeavingCells.{no_thread}
 use Rattle.core_run.proofs.Places.{place_past}
 use Rattle.core_run.proofs.Walked.{stands}
 use Rattle.run_theory.specs.Labels.{Go, label_of}
@@ -44,12 +46,20 @@ module _ (code : Code) (s : SetupView) (f : Formula) (e : Entry) (st : State Tol
   made_outside : slice_get st.threads e.thread ≡ None → made (machine code s) e st ≡ None
   made_outside h = ap (λ z. if_only e z (stepped (machine code s) st (label_of e))) (ap (entry_of_thread (machine code s) st.words (label_of e)) (ap (slice_get st.threads) (sym (thread_of_label e (label_of e) refl)) ∙ h))
 
+  alone_outside : slice_get st.threads e.thread ≡ None → IsStuck code s e.thread st
+  alone_outside h n =
+      ap (λ z. if_nothing z (option_and_then (alone (machine code s) n e.thread) (stepped (machine code s) st (Go e.thread)))) (ap (entry_of_thread (machine code s) st.words (Go e.thread)) h)
+      ∙ ap (option_and_then (alone (machine code s) n e.thread)) (ap (step_of_thread (machine code s) st (Go e.thread)) h)
+
   pub part_outside : slice_get st.threads e.thread ≡ None → part (machine code s) e st ≡ None
   part_outside h = go (e.count - count_of (machine code s) st e.thread)
     where
       go : (n : ℕ) → option_and_then (made (machine code s) e) (alone (machine code s) n e.thread st) ≡ None
       go zero = made_outside h
-      go (suc n) = ap (option_and_then (made (machine code s) e)) (ap (λ z. if_nothing z (option_and_then (alone (machine code s) n e.thread) (stepped (machine code s) st (Go e.thread)))) (ap (entry_of_thread (machine code s) st.words (Go e.thread)) h) ∙ ap (option_and_then (alone (machine code s) n e.thread)) (ap (step_of_thread (machine code s) st (Go e.thread)) h))
+      go (suc n) = ap (option_and_then (made (machine code s) e)) (alone_outside h n)
+
+  pub end_outside : slice_get st.threads e.thread ≡ None → (part (machine code s) e st ≡ None) × (IsOutside code s e st → ⊥)
+  end_outside h = (part_outside h, no_thread code s (e.count - count_of (machine code s) st e.thread) e.thread st h (alone_outside h))
 
   -- how many events the thread has after it
   pub count_is : (flows : List Running) (words : List ℕ) (reads : List (List Access)) (r : Running) → IsShown f flows words reads st → slice_get flows e.thread ≡ Some r → count_of (machine code s) st e.thread ≡ r.kept.thread.count
@@ -61,8 +71,19 @@ module _ (code : Code) (s : SetupView) (f : Formula) (e : Entry) (st : State Tol
   pub left_is : (flows : List Running) (words : List ℕ) (reads : List (List Access)) → IsShown f flows words reads st → e.thread < length flows → (n got : ℕ) → ((r : Running) → slice_get flows e.thread ≡ Some r → got ≡ r.kept.thread.count) → n ≡ e.count - got → n ≡ e.count - count_of (machine code s) st e.thread
   left_is flows words reads h lt n got g q = let r = running_at flows e.thread lt in q ∙ ap (λ z. e.count - z) (g r.0 r.1 ∙ sym (count_is flows words reads r.0 h r.1))
 
-  pub part_stuck : (n : ℕ) → n ≡ e.count - count_of (machine code s) st e.thread → alone (machine code s) n e.thread st ≡ None → part (machine code s) e st ≡ None
+  part_stuck : (n : ℕ) → n ≡ e.count - count_of (machine code s) st e.thread → alone (machine code s) n e.thread st ≡ None → part (machine code s) e st ≡ None
   part_stuck n q h = ap (λ k. option_and_then (made (machine code s) e) (alone (machine code s) k e.thread st)) (sym q) ∙ ap (option_and_then (made (machine code s) e)) h
+
+  -- the same of cells that the machine doesn't have
+
+  pub end_refused : (n : ℕ) → n ≡ e.count - count_of (machine code s) st e.thread → (alone (machine code s) n e.thread st ≡ None) × (GoesOutside code s n e.thread st → ⊥) → (part (machine code s) e st ≡ None) × (IsOutside code s e st → ⊥)
+  end_refused n q h = (part_stuck n q h.0, λ g. h.1 (subst (λ k. GoesOutside code s k e.thread st) (sym q) g))
+
+  pub end_missing : (n : ℕ) → n ≡ e.count - count_of (machine code s) st e.thread → (alone (machine code s) n e.thread st ≡ None) × GoesOutside code s n e.thread st → (part (machine code s) e st ≡ None) × IsOutside code s e st
+  end_missing n q h = (part_stuck n q h.0, subst (λ k. GoesOutside code s k e.thread st) q h.1)
+
+  pub end_inside : (n : ℕ) → n ≡ e.count - count_of (machine code s) st e.thread → (GoesOutside code s n e.thread st → ⊥) → IsOutside code s e st → ⊥
+  end_inside n q h g = h (subst (λ k. GoesOutside code s k e.thread st) (sym q) g)
 
   part_from : (n : ℕ) (next : State Told) → n ≡ e.count - count_of (machine code s) st e.thread → alone (machine code s) n e.thread st ≡ Some next → part (machine code s) e st ≡ made (machine code s) e next
   part_from n next q h = ap (λ k. option_and_then (made (machine code s) e) (alone (machine code s) k e.thread st)) (sym q) ∙ ap (option_and_then (made (machine code s) e)) h

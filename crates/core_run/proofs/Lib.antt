@@ -7,6 +7,7 @@ pub mod SoundWords
 pub mod ThreadRanges
 pub mod Told
 pub mod WholeRuns
+pub mod LeavingCells
 pub mod PartFacts
 pub mod Performed
 pub mod Outside

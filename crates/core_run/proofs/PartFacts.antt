@@ -6,8 +6,9 @@ use Rattle.word_semantics.specs.declared.event.Action.{Action}
 use Rattle.word_semantics.specs.declared.event.Action.TheVariants as action
 use Rattle.flow_code.specs.Threads.{Thread}
 use Rattle.flow_code.specs.Next.{action_at}
-use Rattle.flow_code.specs.Settle.{settled}
+use Rattle.flow_code.specs.Settle.{settled, next}
 use Rattle.core_run.specs.Machine.{Told, effect_of, action_effect}
+use Rattle.core_run.specs.Outside.{is_outside}
 use Rattle.core_run.specs.Parts.{OwnOf, OwnIs, own_outcome}
 use Rattle.core_run.specs.declared.parts.Own.{Own}
 use Rattle.core_run.specs.declared.parts.Own.TheVariants as own
@@ -29,16 +30,15 @@ module _ (code : Code) (s : SetupView) (t : ℕ) (told : Told) (th st : Thread) 
       ∙ ap (λ z. action_effect code s t told z (action_at code s t z)) (sym settles)
       ∙ ap (action_effect code s t told st) (sym acts)
 
+  -- the action is what the thread does next
+  next_is : next code s t told.thread ≡ a
+  next_is = ap (λ z. next code s t z) is ∙ ap (action_at code s t) (sym settles) ∙ sym acts
+
   pub own_is : (ws ws1 : List ℕ) (th1 : Thread) (o : Own) → OwnOf code s t told st a ws ws1 th1 o → OwnIs code s t told ws ws1 th1 o
-  own_is ws ws1 th1 own.Stays h = ap (own_outcome ws) effect_is ∙ h
+  own_is ws ws1 th1 own.Stays h = (ap (is_outside code s) next_is ∙ h.0, ap (own_outcome ws) effect_is ∙ h.1)
+  own_is ws ws1 th1 own.Outside h = (ap (is_outside code s) next_is ∙ h.0, ap (own_outcome ws) effect_is ∙ h.1)
   own_is ws ws1 th1 own.Marked h = ap (own_outcome ws) effect_is ∙ h
   own_is ws ws1 th1 (own.Accessed x) h = ap (own_outcome ws) effect_is ∙ h
-
-  pub stays_quiet : (ws : List ℕ) → a ≡ action.Quiet → own_outcome ws (effect_of code s (Go t) told) ≡ Blocked
-  stays_quiet ws e = ap (own_outcome ws) (effect_is ∙ ap (action_effect code s t told st) e)
-
-  pub stays_ended : (ws : List ℕ) → a ≡ action.Ended → own_outcome ws (effect_of code s (Go t) told) ≡ Blocked
-  stays_ended ws e = ap (own_outcome ws) (effect_is ∙ ap (action_effect code s t told st) e)
 
 -- an operation is no own step
 operation_is_no_own : (ws : List ℕ) (b : Bool) (e : Entry) (change : ℕ → Change Told) → own_outcome ws (if b then Operates e change else Refused) ≡ Blocked
@@ -63,11 +63,11 @@ module _ (code code1 : Code) (s s1 : SetupView) (t n0 n1 : ℕ) (told : Told) (t
       (subst (λ z. OwnOf code z t told st b ws ws1 th1 o) same_setup
       (subst (λ z. OwnOf z s1 t told st b ws ws1 th1 o) same_code h)))
 
-  pub quiet_found : (ws : List ℕ) → a ≡ action.Quiet → own_outcome ws (effect_of code s (Go t) told) ≡ Blocked
-  quiet_found ws e = ap (own_outcome ws) (effect_here ∙ ap (action_effect code s t told st) e)
+  pub quiet_found : (ws : List ℕ) → a ≡ action.Quiet → OwnIs code s t told ws ws th own.Stays
+  quiet_found ws e = own_found ws ws th action.Quiet own.Stays e (refl, refl)
 
-  pub ended_found : (ws : List ℕ) → a ≡ action.Ended → own_outcome ws (effect_of code s (Go t) told) ≡ Blocked
-  ended_found ws e = ap (own_outcome ws) (effect_here ∙ ap (action_effect code s t told st) e)
+  pub ended_found : (ws : List ℕ) → a ≡ action.Ended → OwnIs code s t told ws ws th own.Stays
+  ended_found ws e = own_found ws ws th action.Ended own.Stays e (refl, refl)
 
-  pub operate_found : (ws : List ℕ) (o : Op) (obj : ObjId) → a ≡ action.Operate o obj → own_outcome ws (effect_of code s (Go t) told) ≡ Blocked
-  operate_found ws o obj e = ap (own_outcome ws) (effect_here ∙ ap (action_effect code s t told st) e) ∙ operation_is_no_own ws (has_object code s obj) _ _
+  pub operate_found : (ws : List ℕ) (o : Op) (obj : ObjId) → a ≡ action.Operate o obj → OwnIs code s t told ws ws th own.Stays
+  operate_found ws o obj e = own_found ws ws th (action.Operate o obj) own.Stays e (refl, operation_is_no_own ws (has_object code1 s1 obj) _ _)

@@ -33,7 +33,7 @@ use Rattle.run_theory.proofs.Kept.{reaches_more, reaches_step}
 
 -- ---- states along a walk can be reached
 
-reaches_solo : (code : Code) (s : SetupView) (es : List Entry) (s0 s1 s2 : State Told) → Reaches (machine code s) s0 s1 → IsSoloRun (machine code s) es s1 s2 → Reaches (machine code s) s0 s2
+pub reaches_solo : (code : Code) (s : SetupView) (es : List Entry) (s0 s1 s2 : State Told) → Reaches (machine code s) s0 s1 → IsSoloRun (machine code s) es s1 s2 → Reaches (machine code s) s0 s2
 reaches_solo code s [] s0 s1 s2 r h = subst (Reaches (machine code s) s0) h r
 reaches_solo code s (e ∷ es) s0 s1 s2 r h =
     let p = h.1 in
@@ -159,7 +159,7 @@ both_true : (a b : Bool) → a && b ≡ true → (a ≡ true) × (b ≡ true)
 both_true true b h = (refl, h)
 both_true false b h = cc
 
-ended_at : (rs : List Running) (ts : List Told) → map running_thread rs ≡ map told_thread ts → all_ended rs ≡ true → (t : ℕ) (th : Told) → slice_get ts t ≡ Some th → has_ended th.thread.phase ≡ true
+pub ended_at : (rs : List Running) (ts : List Told) → map running_thread rs ≡ map told_thread ts → all_ended rs ≡ true → (t : ℕ) (th : Told) → slice_get ts t ≡ Some th → has_ended th.thread.phase ≡ true
 ended_at [] [] e h t th g = cc
 ended_at [] (x ∷ ts) e h t th g = cc
 ended_at (r ∷ rs) [] e h t th g = cc
@@ -169,12 +169,12 @@ ended_at (r ∷ rs) (x ∷ ts) e h (suc t) th g = ended_at rs ts (head_same r rs
 all_true : (a b : Bool) → a ≡ true → b ≡ true → a && b ≡ true
 all_true a b h k = ap (λ z. z && b) h ∙ k
 
-ended_all : (rs : List Running) (ts : List Told) → map running_thread rs ≡ map told_thread ts → ((t : ℕ) (th : Told) → slice_get ts t ≡ Some th → has_ended th.thread.phase ≡ true) → all_ended rs ≡ true
+pub ended_all : (rs : List Running) (ts : List Told) → map running_thread rs ≡ map told_thread ts → ((t : ℕ) (th : Told) → slice_get ts t ≡ Some th → has_ended th.thread.phase ≡ true) → all_ended rs ≡ true
 ended_all [] ts e h = refl
 ended_all (r ∷ rs) [] e h = cc
 ended_all (r ∷ rs) (x ∷ ts) e h = all_true (has_ended r.kept.thread.phase) (all_ended rs) (ap (λ z. has_ended z.phase) (head_same r rs x ts e).0 ∙ h 0 x refl) (ended_all rs ts (head_same r rs x ts e).1 (λ t th g. h (suc t) th g))
 
-endings_are : (rs : List Running) (ts : List Told) → map running_thread rs ≡ map told_thread ts → endings rs ≡ filter_map (λ (told : Told). ending_of told.thread.phase) ts
+pub endings_are : (rs : List Running) (ts : List Told) → map running_thread rs ≡ map told_thread ts → endings rs ≡ filter_map (λ (told : Told). ending_of told.thread.phase) ts
 endings_are [] [] e = refl
 endings_are [] (x ∷ ts) e = cc
 endings_are (r ∷ rs) [] e = cc
@@ -183,13 +183,13 @@ endings_are (r ∷ rs) (x ∷ ts) e = go (ending_of r.kept.thread.phase) (ending
     go : (a b : Option Ending) → a ≡ b → endings rs ≡ filter_map (λ (told : Told). ending_of told.thread.phase) ts → endings (r ∷ rs) ≡ filter_map (λ (told : Told). ending_of told.thread.phase) (x ∷ ts)
     go a b q k = cc ((ap (λ z. ending_of z.phase) (head_same r rs x ts e).0), k)
 
-trap_is : (t : ℕ) (rs : List Running) (ts : List Told) → map running_thread rs ≡ map told_thread ts → trap_from t rs ≡ first_trap t ts
+pub trap_is : (t : ℕ) (rs : List Running) (ts : List Told) → map running_thread rs ≡ map told_thread ts → trap_from t rs ≡ first_trap t ts
 trap_is t [] [] e = refl
 trap_is t [] (x ∷ ts) e = cc
 trap_is t (r ∷ rs) [] e = cc
 trap_is t (r ∷ rs) (x ∷ ts) e = ap (λ z. trap_or t (trap_of z.phase) (trap_from (t + 1) rs)) (head_same r rs x ts e).0 ∙ ap (trap_or t (trap_of x.thread.phase)) (trap_is (t + 1) rs ts (head_same r rs x ts e).1)
 
-reads_are : (f : Formula) (ts : List Told) → flat_map (λ xs. xs) (map (kept_reads f) ts) ≡ flat_map (kept_reads f) ts
+pub reads_are : (f : Formula) (ts : List Told) → flat_map (λ xs. xs) (map (kept_reads f) ts) ≡ flat_map (kept_reads f) ts
 reads_are f [] = refl
 reads_are f (x ∷ ts) = ap (λ z. kept_reads f x ++ z) (reads_are f ts)
 

@@ -1,5 +1,5 @@
 -- The walk's parts over a vector of running threads, of which one is taken out by its place and put back.
-use Rattle.std.proofs.Common.{◌≡◌, ℕ, suc, ◌<◌, [], ◌++◌, List, length, Some, None, refl, sym, ap, ◌∙◌, subst, get_or, true}
+use Rattle.std.proofs.Common.{◌≡◌, ℕ, ◌<◌, [], ◌++◌, List, length, Some, None, refl, sym, ap, ◌∙◌, subst, get_or, true}
 use Rattle.std.specs.Prelude.{slice_get, slice_set}
 use Rattle.std.proofs.lemmas.Option.{slice_get_read, slice_get-get_or}
 use Rattle.std.proofs.lemmas.List.{append-nil}
@@ -15,10 +15,11 @@ use Rattle.core_run.specs.declared.parts.Own.{Own}
 use Rattle.core_run.specs.declared.parts.Own.TheVariants as own
 use Rattle.core_run.specs.declared.parts.Made.{Made}
 use Rattle.core_run.specs.declared.parts.Made.TheVariants as made_case
-use Rattle.core_run.specs.Shown.{RunAll, IsShown, with_read, StepsTo, MakesTo, EntryStep}
-use Rattle.core_run.proofs.Walked.{run_all_here, run_all_set, marked_step, accessed_step, no_step, refused_entry, silent_entry, printed_entry}
+use Rattle.core_run.specs.Outside.{ComesOutside}
+use Rattle.core_run.specs.Shown.{RunAll, IsShown, with_read, StepsTo, MakesTo, EntryStep, IsStuck}
+use Rattle.core_run.proofs.Walked.{run_all_here, run_all_set, marked_step, accessed_step, no_step, step_inside, step_outside, refused_entry, silent_entry, printed_entry}
 use Rattle.run_theory.specs.Steps.{State}
-use Rattle.run_theory.specs.Walk.{alone, made}
+use Rattle.run_theory.specs.Walk.{made}
 
 module _ (code : Code) (s : SetupView) (flows : List Running) (t index : ℕ) (r r1 : Running) (all : RunAll code s 0 flows) (within : t < length flows) (same : index ≡ t) (read : r ≡ get_or flows index r) where
   pub at_thread : slice_get flows t ≡ Some r
@@ -43,8 +44,11 @@ module _ (code : Code) (s : SetupView) (flows : List Running) (t index : ℕ) (r
         (subst (λ z. OwnIs z r.setup t told words ws1 r1.kept.thread b) code_is
         (subst (λ z. OwnIs r.code r.setup t told words ws1 r1.kept.thread z) e (h told is)))
 
-    pub stays_here : (o : Own) → o ≡ own.Stays → ((told : Told) → told.thread ≡ r.kept.thread → OwnIs r.code r.setup t told words ws1 r1.kept.thread o) → (n : ℕ) → alone (machine code s) (suc n) t st ≡ None
-    stays_here o e h = no_step code s f t st flows words reads shown r r1 at_thread ws1 (own_here o own.Stays e h)
+    pub stays_here : (o : Own) → o ≡ own.Stays → ((told : Told) → told.thread ≡ r.kept.thread → OwnIs r.code r.setup t told words ws1 r1.kept.thread o) → IsStuck code s t st × (ComesOutside code s t st → ⊥)
+    stays_here o e h = (no_step code s f t st flows words reads shown r r1 at_thread ws1 (own_here o own.Stays e h), step_inside code s f t st flows words reads shown r r1 at_thread ws1 (own_here o own.Stays e h))
+
+    pub outside_here : (o : Own) → o ≡ own.Outside → ((told : Told) → told.thread ≡ r.kept.thread → OwnIs r.code r.setup t told words ws1 r1.kept.thread o) → IsStuck code s t st × ComesOutside code s t st
+    outside_here o e h = step_outside code s f t st flows words reads shown r r1 at_thread ws1 (own_here o own.Outside e h)
 
     pub marked_here : (o : Own) → o ≡ own.Marked → ((told : Told) → told.thread ≡ r.kept.thread → OwnIs r.code r.setup t told words ws1 r1.kept.thread o) → StepsTo code s f t st (slice_set flows index r1) ws1 reads
     marked_here o e h = subst (λ z. StepsTo code s f t st (slice_set flows z r1) ws1 reads) (sym same) (marked_step code s f t st flows words reads shown r r1 at_thread ws1 (own_here o own.Marked e h))

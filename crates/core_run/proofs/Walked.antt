@@ -11,6 +11,7 @@ use Rattle.sync_objects.specs.declared.entry.Entry.{Entry}
 use Rattle.sync_objects.specs.declared.entry.Noted.{Noted}
 use Rattle.flow_code.specs.declared.code.Code.{Code}
 use Rattle.flow_code.specs.Threads.{Thread}
+use Rattle.flow_code.specs.Settle.{next}
 use Rattle.thread_interpreter.specs.declared.access.Access.{Access}
 use Rattle.thread_interpreter.specs.declared.access.Formula.{Formula}
 use Rattle.thread_interpreter.specs.Flows.{Running}
@@ -21,7 +22,8 @@ use Rattle.thread_interpreter.specs.Formulas.{meets}
 use Rattle.core_run.specs.Parts.{own_outcome, made_outcome, OwnIs, MadeIs}
 use Rattle.core_run.specs.declared.parts.Own.TheVariants as own
 use Rattle.core_run.specs.declared.parts.Made.TheVariants as made_case
-use Rattle.core_run.specs.Shown.{running_thread, told_thread, RunAll, IsShown, with_read, StepsTo, MakesTo}
+use Rattle.core_run.specs.Outside.{is_outside, ComesOutside}
+use Rattle.core_run.specs.Shown.{running_thread, told_thread, RunAll, IsShown, with_read, StepsTo, MakesTo, IsStuck}
 use Rattle.run_theory.specs.Labels.{Go, label_thread, label_of}
 use Rattle.run_theory.specs.Same.{same_entry}
 use Rattle.run_theory.specs.Steps.{State, Effect, Refused, Marks, Loads, Stores, Operates, Blocked, Leaves, change_outcome, outcome, with_thread, step_of_thread, stepped, entry_of_thread, effect_entry, added}
@@ -163,7 +165,18 @@ module _ (code : Code) (s : SetupView) (f : Formula) (t : ℕ) (st : State Told)
       }
 
   pub no_step : (ws1 : List ℕ) → ((told : Told) → told.thread ≡ r.kept.thread → OwnIs code s t told words ws1 r1.kept.thread own.Stays) → (n : ℕ) → alone (machine code s) (suc n) t st ≡ None
-  no_step ws1 h = own_blocked code s st t here.told here.at (ap (λ z. own_outcome z (effect_of code s (Go t) here.told)) (sym shown.words_are) ∙ h here.told here.is)
+  no_step ws1 h = own_blocked code s st t here.told here.at (ap (λ z. own_outcome z (effect_of code s (Go t) here.told)) (sym shown.words_are) ∙ (h here.told here.is).1)
+
+  pub step_inside : (ws1 : List ℕ) → ((told : Told) → told.thread ≡ r.kept.thread → OwnIs code s t told words ws1 r1.kept.thread own.Stays) → ComesOutside code s t st → ⊥
+  step_inside ws1 h c =
+      let same : here.told ≡ c.told = same_Some _ _ (sym here.at ∙ c.at) in
+      let clash : false ≡ true = sym (h here.told here.is).0 ∙ ap (λ (z : Told). is_outside code s (next code s t z.thread)) same ∙ c.outside in
+      cc
+
+  pub step_outside : (ws1 : List ℕ) → ((told : Told) → told.thread ≡ r.kept.thread → OwnIs code s t told words ws1 r1.kept.thread own.Outside) → IsStuck code s t st × ComesOutside code s t st
+  step_outside ws1 h =
+      let o = h here.told here.is in
+      (own_blocked code s st t here.told here.at (ap (λ z. own_outcome z (effect_of code s (Go t) here.told)) (sym shown.words_are) ∙ o.1), record { told = here.told; at = here.at; outside = o.0 })
 
 -- ---- the operation of an entry
 

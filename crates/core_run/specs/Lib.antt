@@ -1,6 +1,7 @@
 pub mod Histories
 pub mod Kept
 pub mod Machine
+pub mod Outside
 pub mod Parts
 pub mod Shown
 pub mod Walks

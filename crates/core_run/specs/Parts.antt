@@ -13,7 +13,9 @@ use Rattle.core_run.specs.Kept.{AreSound}
 use Rattle.flow_code.specs.declared.code.Code.{Code}
 use Rattle.word_semantics.specs.declared.event.Action.{Action}
 use Rattle.flow_code.specs.Threads.{Thread}
+use Rattle.flow_code.specs.Settle.{next}
 use Rattle.core_run.specs.Machine.{Told, effect_of, action_effect, marked, accessed, operated, entry_of}
+use Rattle.core_run.specs.Outside.{is_outside}
 use Rattle.core_run.specs.Words.{cells_of, has_object, place_of}
 use Rattle.sync_objects.specs.Advance.{NotAllowed, Advances, advanced}
 use Rattle.core_run.specs.declared.parts.Own.{Own}
@@ -42,13 +44,16 @@ made_outcome cells want ws (Stores c w th) = Blocked
 
 -- what a step of a thread in state th, whose next action is a, has come to
 abbrev pub OwnOf : Code → SetupView → ℕ → Told → Thread → Action → List ℕ → List ℕ → Thread → Own → Type 0
-OwnOf code s t told th a ws ws1 th1 own.Stays = own_outcome ws (action_effect code s t told th a) ≡ Blocked
+OwnOf code s t told th a ws ws1 th1 own.Stays = (is_outside code s a ≡ false) × (own_outcome ws (action_effect code s t told th a) ≡ Blocked)
+OwnOf code s t told th a ws ws1 th1 own.Outside = (is_outside code s a ≡ true) × (own_outcome ws (action_effect code s t told th a) ≡ Blocked)
 OwnOf code s t told th a ws ws1 th1 own.Marked = own_outcome ws (action_effect code s t told th a) ≡ Leaves ws1 (marked told th1)
 OwnOf code s t told th a ws ws1 th1 (own.Accessed access) = own_outcome ws (action_effect code s t told th a) ≡ Leaves ws1 (accessed told th1 access)
 
--- what a thread's own step has come to: none was to be made, a mark, or an access
+-- what a thread's own step has come to: none was to be made, none could be made of a cell that the machine doesn't have, a mark,
+-- or an access
 abbrev pub OwnIs : Code → SetupView → ℕ → Told → List ℕ → List ℕ → Thread → Own → Type 0
-OwnIs code s t told ws ws1 th1 own.Stays = own_outcome ws (effect_of code s (Go t) told) ≡ Blocked
+OwnIs code s t told ws ws1 th1 own.Stays = (is_outside code s (next code s t told.thread) ≡ false) × (own_outcome ws (effect_of code s (Go t) told) ≡ Blocked)
+OwnIs code s t told ws ws1 th1 own.Outside = (is_outside code s (next code s t told.thread) ≡ true) × (own_outcome ws (effect_of code s (Go t) told) ≡ Blocked)
 OwnIs code s t told ws ws1 th1 own.Marked = own_outcome ws (effect_of code s (Go t) told) ≡ Leaves ws1 (marked told th1)
 OwnIs code s t told ws ws1 th1 (own.Accessed access) = own_outcome ws (effect_of code s (Go t) told) ≡ Leaves ws1 (accessed told th1 access)
 

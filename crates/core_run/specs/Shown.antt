@@ -8,12 +8,15 @@ use Rattle.thread_interpreter.specs.declared.access.Formula.{Formula}
 use Rattle.thread_interpreter.specs.Flows.{Running}
 use Rattle.sync_objects.specs.declared.entry.Entry.{Entry}
 use Rattle.core_run.specs.Machine.{Told, machine, start_state}
+use Rattle.core_run.specs.Outside.{ComesOutside, GoesOutside, IsOutside}
 use Rattle.core_run.specs.Walks.{most_reads, kept_reads, pieces_of, printed_between, Trapping, NoTrap, TrapOf, trap_or}
 use Rattle.thread_interpreter.specs.Formulas.{meets}
 use Rattle.thread_interpreter.specs.Endings.{ending_of, trap_of}
 use Rattle.thread_interpreter.specs.declared.outcome.Ending.{Ending}
 use Rattle.flow_code.specs.Next.{has_ended}
 use Rattle.std.specs.List.{filter_map, flat_map}
+use Rattle.core_run.specs.declared.outcome.PartEnd.{PartEnd}
+use Rattle.core_run.specs.declared.outcome.PartEnd.TheVariants as end
 use Rattle.core_run.specs.declared.outcome.Walk.{Walk}
 use Rattle.core_run.specs.declared.outcome.Walk.TheVariants as walk
 use Rattle.run_theory.specs.Labels.{Go}
@@ -54,22 +57,29 @@ pub record StepsTo (code : Code) (s : SetupView) (f : Formula) (t : ℕ) (st : S
   pub shown : IsShown f flows words reads next
   pub same_pieces : pieces_of (slice_get next.threads t) ≡ pieces_of (slice_get st.threads t)
 
--- true: the step was made; false: the thread can make none alone
-abbrev pub OwnStep : Code → SetupView → Formula → ℕ → State Told → List Running → List ℕ → List (List Access) → Bool → Type 0
-OwnStep code s f t st flows words reads true = StepsTo code s f t st flows words reads
-OwnStep code s f t st flows words reads false = (n : ℕ) → alone (machine code s) (suc n) t st ≡ None
+-- the thread can make no step alone
+abbrev pub IsStuck : Code → SetupView → ℕ → State Told → Type 0
+IsStuck code s t st = (n : ℕ) → alone (machine code s) (suc n) t st ≡ None
+
+-- the step was made, or the thread can make none alone, and whether that is for want of a cell
+abbrev pub OwnStep : Code → SetupView → Formula → ℕ → State Told → List Running → List ℕ → List (List Access) → PartEnd → Type 0
+OwnStep code s f t st flows words reads end.Made = StepsTo code s f t st flows words reads
+OwnStep code s f t st flows words reads end.Refused = IsStuck code s t st × (ComesOutside code s t st → ⊥)
+OwnStep code s f t st flows words reads end.Outside = IsStuck code s t st × ComesOutside code s t st
 
 -- so many own steps of thread t
 pub record GoesTo (code : Code) (s : SetupView) (f : Formula) (n t : ℕ) (st : State Told) (flows : List Running) (words : List ℕ) (reads : List (List Access)) : Type 0 where
   pub next : State Told
   pub goes : alone (machine code s) n t st ≡ Some next
+  pub inside : GoesOutside code s n t st → ⊥
   pub shown : IsShown f flows words reads next
   pub same_pieces : pieces_of (slice_get next.threads t) ≡ pieces_of (slice_get st.threads t)
 
--- true: all the steps were made; false: the thread can't make so many
-abbrev pub OwnSteps : Code → SetupView → Formula → ℕ → ℕ → State Told → List Running → List ℕ → List (List Access) → Bool → Type 0
-OwnSteps code s f n t st flows words reads true = GoesTo code s f n t st flows words reads
-OwnSteps code s f n t st flows words reads false = alone (machine code s) n t st ≡ None
+-- all the steps were made, or the thread can't make so many, and whether that is for want of a cell
+abbrev pub OwnSteps : Code → SetupView → Formula → ℕ → ℕ → State Told → List Running → List ℕ → List (List Access) → PartEnd → Type 0
+OwnSteps code s f n t st flows words reads end.Made = GoesTo code s f n t st flows words reads
+OwnSteps code s f n t st flows words reads end.Refused = (alone (machine code s) n t st ≡ None) × (GoesOutside code s n t st → ⊥)
+OwnSteps code s f n t st flows words reads end.Outside = (alone (machine code s) n t st ≡ None) × GoesOutside code s n t st
 
 -- the operation of an entry, which may have printed
 pub record MakesTo (code : Code) (s : SetupView) (f : Formula) (e : Entry) (st : State Told) (flows : List Running) (words : List ℕ) (reads : List (List Access)) (printed : List ℕ) : Type 0 where
@@ -94,6 +104,12 @@ pub record PartTo (code : Code) (s : SetupView) (f : Formula) (e : Entry) (st : 
 abbrev pub PartStep : Code → SetupView → Formula → Entry → State Told → List Running → List ℕ → List (List Access) → List ℕ → List ℕ → Bool → Type 0
 PartStep code s f e st flows words reads before after true = (printed : List ℕ) × (after ≡ before ++ printed) × PartTo code s f e st flows words reads printed
 PartStep code s f e st flows words reads before after false = part (machine code s) e st ≡ None
+
+-- the same with the reason why it can't
+abbrev pub PartEndIs : Code → SetupView → Formula → Entry → State Told → List Running → List ℕ → List (List Access) → List ℕ → List ℕ → PartEnd → Type 0
+PartEndIs code s f e st flows words reads before after end.Made = PartStep code s f e st flows words reads before after true × (IsOutside code s e st → ⊥)
+PartEndIs code s f e st flows words reads before after end.Refused = PartStep code s f e st flows words reads before after false × (IsOutside code s e st → ⊥)
+PartEndIs code s f e st flows words reads before after end.Outside = PartStep code s f e st flows words reads before after false × IsOutside code s e st
 
 -- ---- the start
 

@@ -9,8 +9,8 @@ use rr_base::{Bytes, List, Trap};
 use std::alloc::{AllocError, Global};
 use thread_interpreter::{Access, Ending, Flow};
 
-// Whether all threads have ended.
-pub(crate) fn have_ended(flows: &[Flow]) -> bool
+/// Whether all threads have ended.
+pub fn have_ended(flows: &[Flow]) -> bool
     ensures { result ≡ all_ended flows.now }
 {
     let mut rest = flows;
@@ -69,7 +69,7 @@ pub(crate) fn joined(alloc: Global, lists: &[List<Access>]) -> Result<List<Acces
 }
 
 /// What a walk that has made all entries comes to, if all threads have ended.
-pub(crate) fn shown(
+pub fn shown(
     alloc: Global,
     flows: &[Flow],
     reads: &[List<Access>],

@@ -13,10 +13,10 @@ ghost use Rattle.std.specs.Prelude.{slice_set};
 
 use crate::parts::{Made, has_object, perform, place_of, word_at};
 use crate::same::same_entry;
-use word_semantics::Action;
 use std::alloc::AllocError;
 use sync_objects::{Entry, ObjId, Op, OpName, advance};
 use thread_interpreter::Flow;
+use word_semantics::Action;
 
 // The entry's operation as the thread's own next one.
 fn make_own(

@@ -1,6 +1,17 @@
 use rr_base::{Bytes, List, Trap};
 use thread_interpreter::{Access, Ending};
 
+/// How the part of an entry has ended.
+#[derive(Clone, Copy, Debug, PartialEq, Eq)]
+pub enum PartEnd {
+    /// Its thread has gone to the entry and made it.
+    Made,
+    /// It isn't allowed.
+    Refused,
+    /// It isn't allowed, since its thread comes to a load or store of a cell that the machine doesn't have.
+    Outside,
+}
+
 /// What the walk of a list of entries comes to.
 #[derive(Debug, Drop)]
 pub enum Walk {

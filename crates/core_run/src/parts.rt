@@ -9,18 +9,20 @@ ghost use Rattle.core_run.specs.Machine.{Told};
 ghost use Rattle.core_run.specs.Words.{cells_of, has_object as has_object_of, place_of as place_of_object};
 ghost use Rattle.core_run.specs.Parts.{OwnOf, OwnIs, KeepsObjects, is_print as is_print_of, PerformedIs, AreUsable};
 
-use word_semantics::Action;
 use flow_code::Code;
 use rr_base::Bytes;
 use std::alloc::AllocError;
 use sync_objects::{ObjId, Op, Setup, advance};
 use thread_interpreter::{Access, Flow};
+use word_semantics::Action;
 
 /// What a thread's own step has come to.
 #[derive(Clone, Copy)]
 pub(crate) enum Own {
     /// None was to be made: the thread operates next, or has ended.
     Stays,
+    /// The next is a load or store of a cell that the machine doesn't have.
+    Outside,
     Marked,
     Accessed(Access),
 }
@@ -51,7 +53,7 @@ fn load(
     ensures own { (told : Told) → IfOk result (OwnOf flow.old.code flow.old.setup thread told flow.old.kept.thread (action.Load cell) words.now words.now flow.new.kept.thread) }
 {
     if cell >= cells {
-        return Ok(Own::Stays);
+        return Ok(Own::Outside);
     }
     let value = words[cell as usize];
     let access = Access {
@@ -85,7 +87,7 @@ fn store(
     ensures own { (told : Told) → IfOk result (OwnOf flow.old.code flow.old.setup thread told flow.old.kept.thread (action.Store cell value) words.old.items words.new.items flow.new.kept.thread) }
 {
     if cell >= cells {
-        return Ok(Own::Stays);
+        return Ok(Own::Outside);
     }
     let access = Access {
         thread,

@@ -5,7 +5,7 @@ ghost use Rattle.flow_code.specs.Settle.{IsRunnable};
 ghost use Rattle.core_run.specs.Machine.{Told};
 ghost use Rattle.core_run.specs.Words.{cells_of};
 ghost use Rattle.core_run.specs.Parts.{KeepsObjects, AreUsable};
-ghost use Rattle.core_run.specs.Shown.{RunAll, IsShown, OwnStep, OwnSteps, EntryStep, PartStep};
+ghost use Rattle.core_run.specs.Shown.{RunAll, IsShown, OwnStep, OwnSteps, EntryStep, PartStep, PartEndIs};
 ghost use Rattle.thread_interpreter.specs.Flows.{Running};
 ghost use Rattle.std.specs.Prelude.{Some};
 ghost use Rattle.run_theory.specs.Steps.{State};
@@ -14,6 +14,7 @@ ghost use Rattle.thread_interpreter.specs.declared.access.Access.{Access as Acce
 ghost use Rattle.thread_interpreter.specs.declared.access.Formula.{Formula as FormulaOf};
 
 use crate::making::make_entry;
+use crate::outcome::PartEnd;
 use crate::parts::{Made, Own, own_step};
 use crate::reads::keep;
 use flow_code::Code;
@@ -32,7 +33,7 @@ fn own_step_in(
     cells: u32,
     thread: u8,
     formula: &Formula,
-) -> Result<bool, AllocError>
+) -> Result<PartEnd, AllocError>
     requires all { RunAll code.now setup.now 0 flows.old.items }
     requires thread { thread < length flows.old.items }
     requires reads { length reads.old.items ≡ length flows.old.items }
@@ -49,11 +50,12 @@ fn own_step_in(
     let flow = &mut flows[usize::from(thread)];
     let own = own_step(flow, words, cells, thread)?;
     match own {
-        Own::Stays => Ok(false),
-        Own::Marked => Ok(true),
+        Own::Stays => Ok(PartEnd::Refused),
+        Own::Outside => Ok(PartEnd::Outside),
+        Own::Marked => Ok(PartEnd::Made),
         Own::Accessed(access) => {
             keep(reads, thread, formula, access)?;
-            Ok(true)
+            Ok(PartEnd::Made)
         }
     }
 }
@@ -69,7 +71,7 @@ fn own_steps_in(
     thread: u8,
     count: u32,
     formula: &Formula,
-) -> Result<bool, AllocError>
+) -> Result<PartEnd, AllocError>
     requires all { RunAll code.now setup.now 0 flows.old.items }
     requires thread { thread < length flows.old.items }
     requires reads { length reads.old.items ≡ length flows.old.items }
@@ -83,13 +85,15 @@ fn own_steps_in(
 {
     let mut left = count;
     while left > 0 {
-        let goes = own_step_in(code, setup, flows, words, reads, cells, thread, formula)?;
-        if !goes {
-            return Ok(false);
+        let end = own_step_in(code, setup, flows, words, reads, cells, thread, formula)?;
+        match end {
+            PartEnd::Made => {}
+            PartEnd::Refused => return Ok(PartEnd::Refused),
+            PartEnd::Outside => return Ok(PartEnd::Outside),
         }
         left -= 1;
     }
-    Ok(true)
+    Ok(PartEnd::Made)
 }
 
 // The operation that makes an entry, in its thread; what it prints is put after the bytes that are there.
@@ -137,7 +141,60 @@ fn count_in(flows: &[Flow], thread: u8) -> u32
 
 /// The part of one entry in a walk: its thread goes alone up to the entry's count, and then makes the entry. `words`
 /// are those of all cells and objects, and `reads` are the accesses that were kept of each thread. What is printed is
-/// put after `out`. The answer is false exactly where the part isn't allowed.
+/// put after `out`. The answer tells whether the part is allowed, and if it isn't, whether that is for want of a cell.
+pub fn walk_part(
+    code: &Code,
+    setup: &Setup,
+    flows: &mut Vec<Flow>,
+    words: &mut Vec<u64>,
+    reads: &mut Vec<List<Access>>,
+    out: &mut Bytes,
+    cells: u32,
+    entry: Entry,
+    formula: &Formula,
+) -> Result<PartEnd, AllocError>
+    requires runnable { IsRunnable code.now }
+    requires limits { IsWithinLimits setup.now }
+    requires all { RunAll code.now setup.now 0 flows.old.items }
+    requires threads { length flows.old.items ≡ setup.now.slots }
+    requires reads { length reads.old.items ≡ length flows.old.items }
+    requires cells { cells ≡ cells_of code.now setup.now }
+    requires len { cells ≤ length words.old.items }
+    requires words { AreUsable code.now setup.now words.old.items }
+    ensures all { RunAll code.now setup.now 0 flows.new.items }
+    ensures flows { length flows.new.items ≡ length flows.old.items }
+    ensures reads { length reads.new.items ≡ length reads.old.items }
+    ensures part { (st : State Told) → IsShown formula.now flows.old.items words.old.items reads.old.items st → IfOk result (PartEndIs code.now setup.now formula.now entry st flows.new.items words.new.items reads.new.items out.old out.new) }
+{
+    if usize::from(entry.thread) >= flows.len() {
+        return Ok(PartEnd::Refused);
+    }
+    let count = entry.count.saturating_sub(count_in(flows, entry.thread));
+    let end = own_steps_in(
+        code,
+        setup,
+        flows,
+        words,
+        reads,
+        cells,
+        entry.thread,
+        count,
+        formula,
+    )?;
+    match end {
+        PartEnd::Made => {}
+        PartEnd::Refused => return Ok(PartEnd::Refused),
+        PartEnd::Outside => return Ok(PartEnd::Outside),
+    }
+    let made = make_in(code, setup, flows, words, out, cells, entry)?;
+    if made {
+        Ok(PartEnd::Made)
+    } else {
+        Ok(PartEnd::Refused)
+    }
+}
+
+/// The same, where it doesn't matter why: the answer is false exactly where the part isn't allowed.
 pub fn make_part(
     code: &Code,
     setup: &Setup,
@@ -162,23 +219,10 @@ pub fn make_part(
     ensures reads { length reads.new.items ≡ length reads.old.items }
     ensures part { (st : State Told) → IsShown formula.now flows.old.items words.old.items reads.old.items st → IfOk result (PartStep code.now setup.now formula.now entry st flows.new.items words.new.items reads.new.items out.old out.new) }
 {
-    if usize::from(entry.thread) >= flows.len() {
-        return Ok(false);
+    let end = walk_part(code, setup, flows, words, reads, out, cells, entry, formula)?;
+    match end {
+        PartEnd::Made => Ok(true),
+        PartEnd::Refused => Ok(false),
+        PartEnd::Outside => Ok(false),
     }
-    let count = entry.count.saturating_sub(count_in(flows, entry.thread));
-    let goes = own_steps_in(
-        code,
-        setup,
-        flows,
-        words,
-        reads,
-        cells,
-        entry.thread,
-        count,
-        formula,
-    )?;
-    if !goes {
-        return Ok(false);
-    }
-    make_in(code, setup, flows, words, out, cells, entry)
 }

@@ -1,8 +1,8 @@
 // Instructions, functions and regions of which the tests' codes are made.
-use word_semantics::{BinaryOp, LibraryCall};
 use flow_code::{Act, Base, Function, Instr, Region, Work};
 use rr_base::{CellKind, Layout, List, Position, PtrWord, Site};
 use std::alloc::{AllocError, Global};
+use word_semantics::{BinaryOp, LibraryCall};
 
 pub fn lone<T: Drop>(alloc: Global, item: T) -> Result<List<T>, AllocError> {
     let mut list = List::new(alloc);

@@ -2,7 +2,6 @@
 use crate::instructions::{
     add, address, binary, call, cell, compute, constant, function, load, lone, site, store, whole,
 };
-use word_semantics::{BinaryOp, LibraryCall, Piece};
 use core_run::{Entry, Walk, walk};
 use flow_code::{Act, Base, Bound, Code, Function, Instr, LockInfo, Region, Span, Work, is_valid};
 use rr_base::{Bytes, CellKind, List, PtrWord, Site};
@@ -11,6 +10,7 @@ use std::process::Abort;
 use std::test::Fail;
 use sync_objects::{ObjId, OpName, Setup};
 use thread_interpreter::Formula;
+use word_semantics::{BinaryOp, LibraryCall, Piece};
 
 pub type Row = (u8, u32, OpName, ObjId);
 
@@ -469,7 +469,7 @@ fn check(
     Ok(())
 }
 
-// The same of a log in parts, so that no table is long: a function that names one pays for its rows.
+// The same of a log in parts, so that no table is long: the proof of a function grows with the rows of each table that it names.
 fn check_parts(
     rt: &impl Abort,
     alloc: Global,

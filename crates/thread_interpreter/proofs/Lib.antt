@@ -4,3 +4,4 @@ pub mod FlowFacts
 pub mod Retakes
 pub mod PairSteps
 pub mod StartRanges
+pub mod Parted

@@ -9,9 +9,9 @@ ghost use Rattle.flow_code.specs.declared.thread.Phase.TheVariants as phase;
 
 use crate::place::{instrs_at, pointers_at};
 use crate::state::ThreadState;
-use word_semantics::word;
 use flow_code::{Act, Code, Instr, Phase, Work, compute};
 use sync_objects::Setup;
+use word_semantics::word;
 
 impl ThreadState {
     // Computes into a register and goes on, unless that traps.

@@ -3,10 +3,10 @@ ghost use Rattle.std.specs.Prelude.{◌≡◌, nat_le, Option};
 ghost use Rattle.flow_code.specs.Next.{limited as limited_of, owing as owing_of, listed as listed_of, first_owed as first_owed_of, action_of as action_of_due, retake as retake_of};
 ghost use Rattle.word_semantics.specs.Limits.{is_free_of_limit as is_free};
 
-use word_semantics::{Action, Due};
 use flow_code::Stripe;
 use rr_base::Trap;
 use sync_objects::{ObjId, Op};
+use word_semantics::{Action, Due};
 
 fn is_free_of_limit(op: Op) -> bool
     ensures { result ≡ is_free op }

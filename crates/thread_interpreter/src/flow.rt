@@ -7,20 +7,25 @@ ghost use Rattle.thread_interpreter.specs.Flows.{is_ready, needs};
 ghost use Rattle.thread_interpreter.specs.Starts.{start_thread, start_phase as start_phase_of};
 ghost use Rattle.thread_interpreter.specs.Pieces.{piece_at};
 ghost use Rattle.thread_interpreter.specs.Stacks.{stack_of};
+ghost use Rattle.thread_interpreter.specs.Parts.{part_of as part_of_thread, thread_of, is_loaded, frames_in, AreWords};
+ghost use Rattle.thread_interpreter.specs.Flows.{most_extra};
+ghost use Rattle.flow_code.specs.Ranges.{InRange};
 ghost use Rattle.flow_code.specs.Next.{act_at};
 ghost use Rattle.thread_interpreter.specs.Endings.{ending_of, trap_of};
 
 use crate::due::action_of;
 use crate::next::main_function;
 use crate::outcome::Ending;
+use crate::part::ThreadPart;
 use crate::place::arena_start;
+use crate::resuming::{part_of, state_of};
 use crate::state::ThreadState;
-use word_semantics::{Action, Due};
 use flow_code::{Code, Phase, Stripe};
 use rr_base::{Bytes, List, Trap};
 use std::alloc::{AllocError, Global};
 use std::marker::Model;
 use sync_objects::Setup;
+use word_semantics::{Action, Due};
 
 /// One running thread of a code. Contracts see its code, its setup, its number, and its state.
 #[derive(Drop)]
@@ -328,5 +333,39 @@ impl<'a> Flow<'a> {
             thread,
             state,
         })
+    }
+
+    /// Thread `thread` of the code in the state that a part keeps.
+    pub fn resumed(
+        alloc: Global,
+        code: &'a Code,
+        setup: &'a Setup,
+        thread: u8,
+        part: &ThreadPart,
+    ) -> Result<Flow<'a>, AllocError>
+        requires runnable { IsRunnable code.now }
+        requires thread { thread < setup.now.slots }
+        requires range { InRange code.now setup.now most_extra thread (thread_of part.now) }
+        ensures { IfOk result (λ f. (f.code ≡ code.now) × (f.setup ≡ setup.now) × (f.number ≡ thread) × (f.kept.thread ≡ thread_of part.now)) }
+    {
+        let _slots = setup.slots();
+        let mut state = state_of(alloc, part)?;
+        state.reserve(code)?;
+        Ok(Flow {
+            alloc,
+            code,
+            setup,
+            thread,
+            state,
+        })
+    }
+
+    /// What is to be kept of the thread's state. The answers that its frames keep have 64 bits.
+    pub fn parts(&self) -> Result<ThreadPart, AllocError>
+        requires { is_loaded self.now.kept.thread.phase ≡ false }
+        ensures part { IfOk result (λ part. part ≡ part_of_thread self.now.kept.thread) }
+        ensures words { OnOk result (AreWords (frames_in self.now.kept.thread.phase self.now.kept.thread)) }
+    {
+        part_of(self.alloc, &self.state)
     }
 }

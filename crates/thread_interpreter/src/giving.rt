@@ -11,12 +11,12 @@ use crate::state::ThreadState;
 use crate::stripes::{
     forget_owed, has_stripe, keep_after, keep_listed, number_of_pair, owes, release,
 };
-use word_semantics::{Due, LibraryCall};
 use flow_code::{Act, Code, Instr, Stripe};
 use sync_objects::{ObjId, Op};
+use word_semantics::{Due, LibraryCall};
 
 // In how many open regions the stripe is.
-fn nesting(regions: &[OpenRegion], number: u32) -> usize
+pub(crate) fn nesting(regions: &[OpenRegion], number: u32) -> usize
     ensures { result ≡ nesting_of regions.now number }
 {
     regions

@@ -20,12 +20,12 @@ ghost use Rattle.thread_interpreter.specs.Starts.{main_of};
 use crate::due::{first_owed, limited, listed, owing};
 use crate::place::{arena_end, function_at, instr_at, instrs_at, pointers_at};
 use crate::state::ThreadState;
-use word_semantics::{
-    Action, Caller, Due, LibraryCall, library_due, number, register, resolved, size_of,
-};
 use flow_code::{Act, Code, Function, Instr, Phase, compute, fitted_in, is_main, is_pointer};
 use rr_base::{CellKind, Trap};
 use sync_objects::{ObjId, Op, Setup};
+use word_semantics::{
+    Action, Caller, Due, LibraryCall, library_due, number, register, resolved, size_of,
+};
 
 // The most frames of a thread, and the most entries that aren't ending ones.
 const MOST_FRAMES: usize = 1000;

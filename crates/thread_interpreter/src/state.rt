@@ -15,12 +15,12 @@ ghost use Rattle.flow_code.specs.Next.{act_at};
 use crate::frame::Frame;
 use crate::place::{instr_at, instrs_at, registers_at};
 use crate::region::OpenRegion;
-use word_semantics::{Onward, piece, pointer_at};
 use flow_code::{Act, Code, Instr, Phase, Stripe};
 use rr_base::{Bytes, List, Trap};
 use std::alloc::{AllocError, Global};
 use std::marker::Model;
 use sync_objects::Op;
+use word_semantics::{Onward, piece, pointer_at};
 
 /// A thread's state, with room for the next step once it was reserved.
 #[derive(Drop)]

@@ -16,13 +16,13 @@ ghost use Rattle.flow_code.specs.declared.act.Act.TheVariants as act;
 use crate::next::{cells_in, is_main_function, value_of};
 use crate::place::{instr_at, line_at, line_at_function, pointers_at};
 use crate::state::ThreadState;
-use word_semantics::{
-    Caller, Due, LibraryCall, count_in, library_onward, number, piece_len, register, word,
-};
 use flow_code::{Act, Code, Phase, Work, compute};
 use rr_base::Trap;
 use std::alloc::Global;
 use sync_objects::{Op, Setup};
+use word_semantics::{
+    Caller, Due, LibraryCall, count_in, library_onward, number, piece_len, register, word,
+};
 
 fn branch_to(value: u64, then_at: u32, else_at: u32) -> u32
     ensures { result ≡ branch_to_of value then_at else_at }

@@ -12,11 +12,11 @@ use crate::place::region_at;
 use crate::region::OpenRegion;
 use crate::state::ThreadState;
 use crate::stripes::{after_pairs, first_lacked, hold, pairs_before};
-use word_semantics::Due;
 use flow_code::{Code, Region, end_lock, first_lock};
 use std::alloc::Global;
 use std::mem;
 use sync_objects::{ObjId, Op};
+use word_semantics::Due;
 
 fn take_or_quiet(number: Option<u32>) -> Due
     requires { IfSome number (λ n. n < 2 ^ 19) }

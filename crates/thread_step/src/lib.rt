@@ -1,7 +1,10 @@
-//! One thread's run with what a recording keeps of it: the interpreter of `thread_interpreter`, the list of the thread's entries with
-//! their numbers, the pieces that it has printed, and the first of its accesses that meet a formula. It stands on `core_run` and
-//! `watch_calls`. It promises that each step leaves what the machine's step leaves of the thread and of its lists, and that a step
-//! for which room was reserved takes no memory.
+//! One thread's run with what a recording keeps of it: the interpreter of `thread_interpreter`, the list of the
+//! thread's entries with their numbers, the pieces that it has printed, and the first of its accesses that meet a
+//! formula.
+//!
+//! Its contract: `take_answer` leaves `after` of `specs/Steps.antt`, without memory once room was reserved;
+//! `law_operation`: that is the machine's step.
+//! It knows nothing of words, other threads.
 #![tactic(auto)]
 
 mod laws;

@@ -6,7 +6,9 @@ ghost use Rattle.flow_code.specs.Next.{gave_up, stopped, slot_closed, has_ended,
 ghost use Rattle.flow_code.specs.Settle.{IsRunnable, settled};
 ghost use Rattle.word_semantics.specs.Limits.{most_entries, most_revokes};
 ghost use Rattle.thread_interpreter.specs.Endings.{ending_of, trap_of};
-ghost use Rattle.thread_interpreter.specs.Flows.{is_ready};
+ghost use Rattle.thread_interpreter.specs.Flows.{is_ready, most_extra};
+ghost use Rattle.thread_interpreter.specs.Parts.{part_of, thread_of, is_loaded, frames_in, AreWords};
+ghost use Rattle.flow_code.specs.Ranges.{InRange};
 ghost use Rattle.core_run.specs.Machine.{access_of, entry_of, operated, marked};
 ghost use Rattle.thread_interpreter.specs.Starts.{start_thread};
 ghost use Rattle.thread_interpreter.specs.Pieces.{piece_at};
@@ -23,7 +25,7 @@ use std::alloc::{AllocError, Global};
 use std::marker::Model;
 use std::mem;
 use sync_objects::{ObjId, Op, OpName};
-use thread_interpreter::{Access, Ending, Flow, Formula};
+use thread_interpreter::{Access, Ending, Flow, Formula, ThreadPart};
 use watch_calls::AccessTest;
 
 /// The most accesses that are kept of a thread.
@@ -105,6 +107,26 @@ fn keep_access(reads: &mut Vec<Access>, formula: &Formula, access: Access)
 }
 
 impl<'a> ThreadRun<'a> {
+    // A thread that has left nothing yet since it stands where it does.
+    fn with_flow(alloc: Global, thread: u8, flow: Flow<'a>, formula: Formula) -> ThreadRun<'a>
+        requires { flow.number ≡ thread }
+        ensures flow { result.flow ≡ flow.entry }
+        ensures lists { (result.entries ≡ []) × (result.pieces ≡ []) × (result.reads ≡ []) }
+        ensures formula { result.formula ≡ formula }
+    {
+        ThreadRun {
+            alloc,
+            thread,
+            flow,
+            noted: Vec::new(alloc),
+            pieces: Vec::new(alloc),
+            formula,
+            reads: Vec::new(alloc),
+            next: Action::Quiet,
+            ready: Bytes::new(alloc),
+        }
+    }
+
     /// Thread `thread` of the code at its start, with empty lists. It keeps the accesses that meet the formula.
     pub fn new(
         alloc: Global,
@@ -120,17 +142,36 @@ impl<'a> ThreadRun<'a> {
         ensures reads { IfOk result (λ r. (r.formula ≡ formula) × (r.reads ≡ [])) }
     {
         let flow = Flow::new(alloc, code, setup, thread)?;
-        Ok(ThreadRun {
-            alloc,
-            thread,
-            flow,
-            noted: Vec::new(alloc),
-            pieces: Vec::new(alloc),
-            formula,
-            reads: Vec::new(alloc),
-            next: Action::Quiet,
-            ready: Bytes::new(alloc),
-        })
+        Ok(ThreadRun::with_flow(alloc, thread, flow, formula))
+    }
+
+    /// Thread `thread` of the code in the state that a part keeps, with empty lists. It keeps the accesses that meet the formula.
+    pub fn resumed(
+        alloc: Global,
+        code: &'a Code,
+        setup: &'a Setup,
+        thread: u8,
+        part: &ThreadPart,
+        formula: Formula,
+    ) -> Result<ThreadRun<'a>, AllocError>
+        requires runnable { IsRunnable code.now }
+        requires thread { thread < setup.now.slots }
+        requires range { InRange code.now setup.now most_extra thread (thread_of part.now) }
+        ensures flow { IfOk result (λ r. (r.flow.code ≡ code.now) × (r.flow.setup ≡ setup.now) × (r.flow.number ≡ thread)) }
+        ensures told { IfOk result (λ r. told_of r ≡ record { thread = thread_of part.now; entries = []; accesses = []; pieces = [] }) }
+        ensures reads { IfOk result (λ r. (r.formula ≡ formula) × (r.reads ≡ [])) }
+    {
+        let flow = Flow::resumed(alloc, code, setup, thread, part)?;
+        Ok(ThreadRun::with_flow(alloc, thread, flow, formula))
+    }
+
+    /// What is to be kept of the thread's state. The answers that its frames keep have 64 bits.
+    pub fn parts(&self) -> Result<ThreadPart, AllocError>
+        requires { is_loaded self.now.flow.kept.thread.phase ≡ false }
+        ensures part { IfOk result (λ part. part ≡ part_of self.now.flow.kept.thread) }
+        ensures words { OnOk result (AreWords (frames_in self.now.flow.kept.thread.phase self.now.flow.kept.thread)) }
+    {
+        self.flow.parts()
     }
 
     /// The thread's entries, in order, each with its number among the operations of its object.

@@ -1,6 +1,6 @@
 use Rattle.std.proofs.Common.{sym, ap, ◌∙◌, arith, length, ◌<◌, get_or, []}
 use Rattle.core_run.specs.Words.{cells_of}
-use Rattle.core_run.proofs.WalkSteps.{still_run, code_is, setup_is, number_is, stays_here, marked_here, accessed_here, reads_at}
+use Rattle.core_run.proofs.WalkSteps.{still_run, code_is, setup_is, number_is, stays_here, marked_here, accessed_here, outside_here, reads_at}
 use Rattle.core_run.proofs.walker.own_step_in.Goals as goal
 
 pub own_step-requires-clause-cells : goal.own_step-requires-clause-cells
@@ -22,6 +22,9 @@ returns-in_err-keep-in-Accessed-clause-all c = still_run c.args.code.now c.args.
 pub returns-in-Stays-clause-all : goal.returns-in-Stays-clause-all
 returns-in-Stays-clause-all c = still_run c.args.code.now c.args.setup.now c.args.flows.now.items c.args.thread c.from.result c.index_mut-flow.result.now c.own_step.new.flow c.requires.all c.requires.thread c.from.ensures c.index_mut-flow.ensures.value c.own_step.ensures.code c.own_step.ensures.setup c.own_step.ensures.number
 
+pub returns-in-Outside-clause-all : goal.returns-in-Outside-clause-all
+returns-in-Outside-clause-all c = still_run c.args.code.now c.args.setup.now c.args.flows.now.items c.args.thread c.from.result c.index_mut-flow.result.now c.own_step.new.flow c.requires.all c.requires.thread c.from.ensures c.index_mut-flow.ensures.value c.own_step.ensures.code c.own_step.ensures.setup c.own_step.ensures.number
+
 pub returns-in-Marked-clause-all : goal.returns-in-Marked-clause-all
 returns-in-Marked-clause-all c = still_run c.args.code.now c.args.setup.now c.args.flows.now.items c.args.thread c.from.result c.index_mut-flow.result.now c.own_step.new.flow c.requires.all c.requires.thread c.from.ensures c.index_mut-flow.ensures.value c.own_step.ensures.code c.own_step.ensures.setup c.own_step.ensures.number
 
@@ -30,6 +33,9 @@ returns-in_ok-keep-in-Accessed-clause-all c = still_run c.args.code.now c.args.s
 
 pub returns-in-Stays-clause-step : goal.returns-in-Stays-clause-step
 returns-in-Stays-clause-step c = λ st shown. stays_here c.args.code.now c.args.setup.now c.args.flows.now.items c.args.thread c.from.result c.index_mut-flow.result.now c.own_step.new.flow c.requires.all c.requires.thread c.from.ensures c.index_mut-flow.ensures.value c.args.formula.now c.args.words.now.items c.own_step.new.words.items c.args.reads.now.items st shown c.in_ok-own.own c.in-Stays.is c.in_ok-own.ensures.own
+
+pub returns-in-Outside-clause-step : goal.returns-in-Outside-clause-step
+returns-in-Outside-clause-step c = λ st shown. outside_here c.args.code.now c.args.setup.now c.args.flows.now.items c.args.thread c.from.result c.index_mut-flow.result.now c.own_step.new.flow c.requires.all c.requires.thread c.from.ensures c.index_mut-flow.ensures.value c.args.formula.now c.args.words.now.items c.own_step.new.words.items c.args.reads.now.items st shown c.in_ok-own.own c.in-Outside.is c.in_ok-own.ensures.own
 
 pub returns-in-Marked-clause-step : goal.returns-in-Marked-clause-step
 returns-in-Marked-clause-step c = λ st shown. marked_here c.args.code.now c.args.setup.now c.args.flows.now.items c.args.thread c.from.result c.index_mut-flow.result.now c.own_step.new.flow c.requires.all c.requires.thread c.from.ensures c.index_mut-flow.ensures.value c.args.formula.now c.args.words.now.items c.own_step.new.words.items c.args.reads.now.items st shown c.in_ok-own.own c.in-Marked.is c.in_ok-own.ensures.own

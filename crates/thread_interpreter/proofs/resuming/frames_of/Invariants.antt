@@ -1,0 +1,9 @@
+use Rattle.std.proofs.Common.{◌≡◌, ◌++◌, length, map}
+use Rattle.thread_interpreter.specs.Parts.{frame_of}
+use Rattle.thread_interpreter.proofs.resuming.frames_of.Given as goal
+
+abbrev pub invariant-loop-rest : goal.invariant-loop-rest
+invariant-loop-rest l = record { same : map frame_of l.parts ≡ l.frames.items ++ map frame_of l.rest }
+
+abbrev pub decreases-loop-rest : goal.decreases-loop-rest
+decreases-loop-rest l = length l.rest
