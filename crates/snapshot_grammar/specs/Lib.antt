@@ -1,0 +1,4 @@
+pub mod Blanks
+pub mod Drafts
+pub mod Grammar
+pub mod Parts

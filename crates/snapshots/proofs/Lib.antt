@@ -1,0 +1,3 @@
+pub mod Resumable
+mod Rows
+pub mod Writing

@@ -1,0 +1,3 @@
+pub mod Conditions
+pub mod Snapshots
+pub mod Text
