@@ -1,0 +1,4 @@
+pub mod Alike
+pub mod Going
+pub mod Groups
+pub mod Resuming
