@@ -16,6 +16,7 @@ use crew::{Crew, CrewEnd};
 use entry_merge::merge;
 use flow_code::Code;
 use rr_base::List;
+use run_walk::{Remains, into_remains, whole_walk};
 use shared_cells::{Cells, Seat};
 use std::alloc::{AllocError, Global};
 use std::sync::Wait;
@@ -23,7 +24,6 @@ use std::thread::Threads;
 use sync_objects::Setup;
 use thread_interpreter::Formula;
 use thread_step::ThreadRun;
-use run_walk::{Remains, into_remains, whole_walk};
 use weak_turns::Carrier;
 
 /// The seats of all threads, their entries, and what else remains of their runs, in order.
@@ -57,7 +57,7 @@ fn carriers_of<'c, 'a>(
     Ok(carriers)
 }
 
-/// The parts of carriers whose threads have ended. Where one hasn't, memory was wanting.
+/// The parts of carriers whose threads have ended. Where one has not, memory ran out.
 fn parts_of(alloc: Global, carriers: Vec<Carrier>) -> Result<Parts, AllocError>
     ensures { IfOk result (λ it. AreParts carriers.entry.items it.seats.items it.lists it.remains.items) }
 {

@@ -1,5 +1,5 @@
 -- An entry that its thread may make: what comes of a look at its object, and of an attempt at it.
-use Rattle.std.proofs.Common.{◌≡◌, ℕ, ℤ, ◌⊎◌, inl, inr, true, false, List, [], ◌∷◌, ◌++◌, refl, sym, ap, subst, ◌∙◌}
+use Rattle.std.proofs.Common.{◌≡◌, ℕ, ℤ, ◌⊎◌, inl, inr, true, false, List, [], ◌∷◌, ◌++◌, Some, refl, sym, ap, subst, ◌∙◌, eqb-true}
 use Rattle.std.specs.Prelude.{if◌then◌else◌}
 use Rattle.sync_objects.specs.Advance.{Advance, NotAllowed as NoRow, Advances, advanced}
 use Rattle.sync_objects.specs.Names.{name_of}
@@ -38,7 +38,7 @@ use Rattle.shared_cells.specs.declared.seat.Seat.{Seat}
 use Rattle.thread_step.specs.Steps.{Stepping}
 use Rattle.weak_turns.specs.Shown.{IsCarrying}
 use Rattle.weak_turns.proofs.Showing.{noted_on, carries_at}
-use Rattle.replayer.specs.Steps.{told_at, HasDeparted, StepIs, KeepsDeparture, Comes, Sees, CameIs}
+use Rattle.replayer.specs.Steps.{told_at, HasDeparted, StepIs, KeepsDeparture, Comes, Sees, step_of}
 use Rattle.replayer.specs.declared.sight.Sight.{Sight}
 use Rattle.replayer.specs.declared.sight.Sight.TheVariants as sight
 use Rattle.replayer.specs.declared.step.Step.{Step}
@@ -209,7 +209,6 @@ comes_on cells old mid new run x st keeps same c = record {
     by step.Waits h = h ∙ same
     by step.Goes h = (h.0 ∙ ap (λ (z : Told). z.entries) same, h.1)
     by step.Makes h = (h.0 ∙ ap (λ (z : Told). z.entries ++ x ∷ []) same, h.1)
-    by step.Strays h = h
     by step.Departs h = (h.0 ∙ same, h.1)
 
 module _ (old mid : Seat) (o : Op) (obj : ObjId) (number : ℕ) (s : Sight) (sees : Sees old mid o obj number s) where
@@ -264,11 +263,11 @@ module _ (cells : Board) (mid new : Seat) (run : Stepping) (x : Noted) (o : Op) 
     is = told_by new w mid.marks view marks ∙ same;
   }
 
-  waits_on : (seen : ℕ) → IsRefused mid new o obj seen ⊎ HasMoved mid new obj seen → Comes cells mid new run x step.Waits
+  waits_on : (seen : ℕ) → IsRefused (Some x.number) mid new o obj seen ⊎ HasMoved mid new obj seen → Comes cells mid new run x step.Waits
   waits_on seen (inl r) = not_made (looked v (place_in v obj) seen) r.view r.marks refl refl refl refl
   waits_on seen (inr m) = not_made (missed (looked v (place_in v obj) m.was) (place_in v obj) seen) m.view m.marks refl refl refl refl
 
-  module _ (answer : ℤ) (made : ℕ) (d : IsDone mid new o obj answer made) where
+  module _ (answer : ℤ) (made : ℕ) (d : IsDone (Some x.number) mid new o obj answer made) where
     abbrev later : Told
     later = after_operation v.code v.setup v.from (told_at mid) o obj answer (number_of d.seen)
 
@@ -278,11 +277,11 @@ module _ (cells : Board) (mid new : Seat) (run : Stepping) (x : Noted) (o : Op) 
     keeps_done : KeepsDeparture mid new
     keeps_done = keeps_by mid new (with_thread (looked v (place_in v obj) d.seen) later) d.makes.view refl refl refl
 
-    strays : Comes cells mid new run x step.Strays
-    strays = record { carrying = carrying; keeps = keeps_done; is = tt }
+    number : made ≡ x.number
+    number = eqb-true made x.number d.asked
 
-    makes : made ≡ x.number → Comes cells mid new run x step.Makes
-    makes number = record {
+    makes : Comes cells mid new run x step.Makes
+    makes = record {
       carrying = carrying;
       keeps = keeps_done;
       is = (
@@ -291,14 +290,6 @@ module _ (cells : Board) (mid new : Seat) (run : Stepping) (x : Noted) (o : Op) 
       );
     }
 
-  pub attempted : (came : Attempt) (st : Step) → AttemptIs mid new o obj came → CameIs came x.number st → Comes cells mid new run x st
-  attempted (attempt.Done answer made) step.Waits is c = absurd c
-  attempted (attempt.Done answer made) step.Goes is c = absurd c
-  attempted (attempt.Done answer made) step.Makes is c = makes answer made is c
-  attempted (attempt.Done answer made) step.Strays is c = strays answer made is
-  attempted (attempt.Done answer made) step.Departs is c = absurd c
-  attempted (attempt.NotYet seen) step.Waits is c = waits_on seen is
-  attempted (attempt.NotYet seen) step.Goes is c = absurd c
-  attempted (attempt.NotYet seen) step.Makes is c = absurd c
-  attempted (attempt.NotYet seen) step.Strays is c = absurd c
-  attempted (attempt.NotYet seen) step.Departs is c = absurd c
+  pub attempted : (came : Attempt) → AttemptIs (Some x.number) mid new o obj came → Comes cells mid new run x (step_of came)
+  attempted (attempt.Done answer made) is = makes answer made is
+  attempted (attempt.NotYet seen) is = waits_on seen is

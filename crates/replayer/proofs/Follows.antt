@@ -107,8 +107,8 @@ module _ (f : Following) (w : Wanted) (sound : IsSound f) (next : next_of f ≡ 
   abbrev pub after : (made : ℕ) → (departed out : Bool) → Following
   after made departed out = record f { seat = seat; run = run; bound = tried.bound; made = made; has_departed = departed; is_out = out }
 
-  sounds : (made : ℕ) (departed out : Bool) → made ≤ length f.wanted → made ≤ f.turns → (out ≡ false → IsOnTrack (after made departed out)) → IsSound (after made departed out)
-  sounds made departed out within listed track = record {
+  sounds : (made : ℕ) (departed : Bool) → made ≤ length f.wanted → made ≤ f.turns → IsOnTrack (after made departed false) → IsSound (after made departed false)
+  sounds made departed within listed track = record {
     runnable = sound.runnable;
     limits = sound.limits;
     carrying = is.carrying;
@@ -116,7 +116,8 @@ module _ (f : Following) (w : Wanted) (sound : IsSound f) (next : next_of f ≡ 
     within = within;
     few = sound.few;
     listed = listed;
-    on_track = track;
+    on_track = λ _. track;
+    cause = λ e. absurd (true≢false (sym e));
   }
 
   still : (made : ℕ) → IsSound (after made false false) → IsSound (after made f.has_departed f.is_out)
@@ -126,7 +127,7 @@ module _ (f : Following) (w : Wanted) (sound : IsSound f) (next : next_of f ≡ 
   sound_waits e =
       let told : told_at seat ≡ told_at f.seat = subst (StepIs f.seat seat w.noted) e is.is in
       let put : (view_of seat).positions ≡ (view_of f.seat).positions = is.positions ∙ ap (λ s. positions_after s w.position (view_of f.seat).positions) e in
-      still f.made (sounds f.made false false sound.within sound.listed (λ _. record {
+      still f.made (sounds f.made false sound.within sound.listed (record {
         made = ap (λ (z : Told). z.entries) told ∙ going.track.made;
         bound = is.bound;
         stands = (put ∙ going.none, λ v q. subst (λ z. IsInStep z v.noted) (sym told) (subst (λ (z : Wanted). IsInStep (told_at f.seat) z.noted) (same_next v q) going.in_step));
@@ -136,7 +137,7 @@ module _ (f : Following) (w : Wanted) (sound : IsSound f) (next : next_of f ≡ 
   sound_goes e =
       let went : StepIs f.seat seat w.noted step.Goes = subst (StepIs f.seat seat w.noted) e is.is in
       let put : (view_of seat).positions ≡ (view_of f.seat).positions = is.positions ∙ ap (λ s. positions_after s w.position (view_of f.seat).positions) e in
-      still f.made (sounds f.made false false sound.within sound.listed (λ _. record {
+      still f.made (sounds f.made false sound.within sound.listed (record {
         made = went.0 ∙ going.track.made;
         bound = is.bound;
         stands = (put ∙ going.none, λ v q. inl (subst (λ (z : Wanted). (told_at seat).thread.count ≤ z.noted.entry.count) (same_next v q) went.1));
@@ -149,21 +150,18 @@ module _ (f : Following) (w : Wanted) (sound : IsSound f) (next : next_of f ≡ 
       let inside = slice_get_within f.wanted f.made w next in
       let left = ap left_by made.0 ∙ left-append (told_at f.seat).entries w.noted in
       let count = made.1 in
-      still (f.made + 1) (sounds (f.made + 1) false false (omega (arith, inside)) (omega (arith, room)) (λ _. record {
+      still (f.made + 1) (sounds (f.made + 1) false (omega (arith, inside)) (omega (arith, room)) (record {
         made = made.0 ∙ ap (λ xs. xs ++ w.noted ∷ []) going.track.made ∙ sym (ap (λ n. noted_in (take n f.wanted)) (add-one f.made) ∙ take_next f.made f.wanted w next);
         bound = is.bound;
         stands = (put ∙ going.none, λ v q. inr (omega (arith, left, count)));
       }))
-
-  pub sound_out : (made : ℕ) → made ≤ length f.wanted → made ≤ f.turns → (departed : Bool) → IsSound (after made departed true)
-  sound_out made within listed departed = sounds made departed true within listed (λ e. absurd (true≢false e))
 
   pub sound_departs : tried.step ≡ step.Departs → IsSound (after f.made true f.is_out)
   sound_departs e =
       let gone : StepIs f.seat seat w.noted step.Departs = subst (StepIs f.seat seat w.noted) e is.is in
       let put : (view_of seat).positions ≡ w.position ∷ (view_of f.seat).positions = is.positions ∙ ap (λ s. positions_after s w.position (view_of f.seat).positions) e in
       let met : (view_of seat).met ≤ w.position = subst (λ s. IsMetBy s (view_of seat).met w.position) e is.met in
-      subst (λ o. IsSound (after f.made true o)) (sym going.alive) (sounds f.made true false sound.within sound.listed (λ _. record {
+      subst (λ o. IsSound (after f.made true o)) (sym going.alive) (sounds f.made true sound.within sound.listed (record {
         made = ap (λ (z : Told). z.entries) gone.0 ∙ going.track.made;
         bound = is.bound;
         stands = (w, next, put ∙ ap (λ ps. w.position ∷ ps) going.none, met, gone.1);

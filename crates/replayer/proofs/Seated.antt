@@ -1,5 +1,5 @@
 -- A thread at its seat that stands at an entry: what its next action is, and what comes of it.
-use Rattle.std.proofs.Common.{◌≡◌, ◌≢◌, ℕ, suc, ◌<◌, ◌≤◌, ℤ, pos, Bool, true, false, not, ◌&&◌, nat_lt, refl, sym, ap, subst, ◌∙◌, add-one, arith}
+use Rattle.std.proofs.Common.{◌≡◌, ◌≢◌, ℕ, suc, ◌<◌, ◌≤◌, ℤ, pos, Bool, true, false, not, ◌&&◌, nat_lt, Some, refl, sym, ap, subst, ◌∙◌, add-one, arith}
 use Rattle.std.proofs.lemmas.Bool.Decides.{nat_tests}
 use Rattle.sync_objects.specs.Names.{name_of, Fits}
 use Rattle.sync_objects.specs.Sound.{IsInRange}
@@ -37,7 +37,7 @@ use Rattle.weak_turns.specs.Shown.{Carries, IsCarrying}
 use Rattle.weak_turns.specs.Turns.{AccessIs}
 use Rattle.weak_turns.proofs.Showing.{comes, comes_next, same_count, same_phase}
 use Rattle.weak_turns.proofs.Stripes.{holds_settled}
-use Rattle.replayer.specs.Steps.{told_at, HasDeparted, KeepsDeparture, Comes, IsSet, IsInStep, Sees, CameIs, may_lose}
+use Rattle.replayer.specs.Steps.{told_at, HasDeparted, KeepsDeparture, Comes, IsSet, IsInStep, Sees, may_lose, step_of}
 use Rattle.replayer.specs.declared.sight.Sight.{Sight}
 use Rattle.replayer.specs.declared.step.Step.{Step}
 use Rattle.replayer.specs.declared.step.Step.TheVariants as step
@@ -241,9 +241,10 @@ module _ (cells : Board) (seat : Seat) (run : Stepping) (x : Noted) (set : IsSet
   }
 
   -- an attempt after a look
-  pub tried : (mid new : Seat) (q : Stepping) (o : Op) (obj : ObjId) (number : ℕ) (s : Sight) (came : Attempt) (st : Step) → Sees seat mid o obj number s → CanMake (view_of mid).code (view_of mid).setup (view_of mid).from (told_at mid) o obj x.entry → IsCarrying cells new q → AttemptIs mid new o obj came → CameIs came x.number st → Comes cells seat new q x st
-  tried mid new q o obj number s came st sees can carrying is came_is =
-      comes_on cells seat mid new q x st (look_keeps seat mid o obj number s sees) (look_told seat mid o obj number s sees) (attempted cells mid new q x o obj can carrying came st is came_is)
+  pub tried : (mid new : Seat) (q : Stepping) (o : Op) (obj : ObjId) (s : Sight) (came : Attempt) (st : Step) → Sees seat mid o obj x.number s → CanMake (view_of mid).code (view_of mid).setup (view_of mid).from (told_at mid) o obj x.entry → IsCarrying cells new q → AttemptIs (Some x.number) mid new o obj came → st ≡ step_of came → Comes cells seat new q x st
+  tried mid new q o obj s came st sees can carrying is came_is =
+      subst (Comes cells seat new q x) (sym came_is)
+      (comes_on cells seat mid new q x (step_of came) (look_keeps seat mid o obj x.number s sees) (look_told seat mid o obj x.number s sees) (attempted cells mid new q x o obj can carrying came is))
 
 -- whether the machine has the object, as its own readers tell it
 pub has_read : (cells : Board) (code : Code) (s : SetupView) (obj : ObjId) (b told : Bool) → code ≡ cells.code → s ≡ cells.setup → told ≡ has_object code s obj → told ≡ b → has_object cells.code cells.setup obj ≡ b

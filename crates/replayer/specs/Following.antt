@@ -7,6 +7,7 @@ use Rattle.shared_cells.specs.Seats.{view_of}
 use Rattle.shared_cells.specs.declared.seat.Seat.{Seat}
 use Rattle.thread_step.specs.Steps.{Stepping}
 use Rattle.weak_turns.specs.Shown.{IsCarrying}
+use Rattle.weak_turns.specs.Turns.{SawNoMemory}
 use Rattle.replayer.specs.Steps.{told_at, IsInStep, HasDeparted, StepIs}
 use Rattle.replayer.specs.Wants.{noted_in}
 use Rattle.replayer.specs.declared.step.Step.{Step}
@@ -51,7 +52,7 @@ pub record IsOnTrack (f : Following) : Type 0 where
   pub bound : (view_of f.seat).met ≤ f.bound
   pub stands : StandsSo f.has_departed f
 
--- what holds of a follower between its turns
+-- what holds of a follower between its turns: where memory ran out for it, it has met the memory word, which was set
 pub record IsSound (f : Following) : Type 0 where
   pub runnable : IsRunnable f.cells.code
   pub limits : IsWithinLimits f.cells.setup
@@ -61,6 +62,7 @@ pub record IsSound (f : Following) : Type 0 where
   pub few : length f.wanted < 2 ^ 32
   pub listed : f.made ≤ f.turns
   pub on_track : f.is_out ≡ false → IsOnTrack f
+  pub cause : f.is_out ≡ true → SawNoMemory f.cells (view_of f.seat).notes
 
 -- how many entries they have made
 abbrev pub made_in : List Following → ℕ

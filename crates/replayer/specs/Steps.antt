@@ -1,5 +1,5 @@
 -- What a turn makes of the next entry of its thread.
-use Rattle.std.specs.Prelude.{◌≡◌, ◌≢◌, ⊤, ℕ, nat_lt, ◌≤◌, ◌&&◌, Bool, false, List, [], ◌∷◌, ◌++◌, length, ◌⊎◌}
+use Rattle.std.specs.Prelude.{◌≡◌, ◌≢◌, ℕ, nat_lt, ◌≤◌, ◌&&◌, Bool, false, List, [], ◌∷◌, ◌++◌, length, ◌⊎◌}
 use Rattle.sync_objects.specs.Advance.{advanced, NotAllowed}
 use Rattle.sync_objects.specs.Words.{number_of}
 use Rattle.sync_objects.specs.declared.entry.Noted.{Noted}
@@ -44,13 +44,12 @@ IsInStep told x = (told.thread.count ≤ x.entry.count) ⊎ (told.thread.count �
 abbrev pub HasDeparted : SeatView → Told → Noted → Type 0
 HasDeparted v told x = (words : List ℕ) → length words ≡ objects_end v.code v.setup → HaveGoneOn v.code v.setup v.notes words → Departs (machine v.code v.setup) floor told.entries words told x
 
--- what the step leaves of the thread: as it was; one load, store or mark more, up to the entry's count; the entry more; an entry
--- that is not the log's; or as it was, and it departs
+-- what the step leaves of the thread: as it was; one load, store or mark more, up to the entry's count; the entry more; or as it
+-- was, and it departs
 abbrev pub StepIs : (old new : Seat) → Noted → Step → Type 0
 StepIs old new x step.Waits = told_at new ≡ told_at old
 StepIs old new x step.Goes = ((told_at new).entries ≡ (told_at old).entries) × ((told_at new).thread.count ≤ x.entry.count)
 StepIs old new x step.Makes = ((told_at new).entries ≡ (told_at old).entries ++ x ∷ []) × ((told_at new).thread.count ≡ floor x.entry)
-StepIs old new x step.Strays = ⊤
 StepIs old new x step.Departs = (told_at new ≡ told_at old) × HasDeparted (view_of new) (told_at new) x
 
 -- nothing is put into the departure word, nor read from it
@@ -94,9 +93,7 @@ pub record Sees (old new : Seat) (o : Op) (obj : ObjId) (number : ℕ) (s : Sigh
 abbrev pub may_lose : Thread → ℕ → ℕ → Bool
 may_lose th lock stripe = holds th.stripes lock stripe && nat_lt th.entries most_entries && nat_lt th.revokes most_revokes
 
--- what an attempt is to an entry with this number
-abbrev pub CameIs : Attempt → ℕ → Step → Type 0
-CameIs (attempt.Done answer made) number step.Makes = made ≡ number
-CameIs (attempt.Done answer made) number step.Strays = ⊤
-CameIs (attempt.NotYet seen) number step.Waits = ⊤
-CameIs _ _ _ = ⊥
+-- what an attempt is to the entry with whose number it was asked for
+abbrev pub step_of : Attempt → Step
+step_of (attempt.Done answer number) = step.Makes
+step_of (attempt.NotYet seen) = step.Waits

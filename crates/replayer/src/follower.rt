@@ -147,7 +147,6 @@ impl<'c, 'a> Follower<'c, 'a> {
             Step::Waits => thread::yield_now(),
             Step::Goes => {}
             Step::Makes => self.made += 1,
-            Step::Strays => self.is_out = true,
             Step::Departs => self.has_departed = true,
         }
     }

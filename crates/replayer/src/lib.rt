@@ -1,6 +1,7 @@
-//! Replays: a code's threads follow their entries of a log side by side, each by itself. It stands on `shared_cells`, `weak_turns`,
-//! `log_walks` and `crew`. It promises that the answer is the walk of the log, its first wrong entry included, whatever the order
-//! of their turns was, and however the log was made.
+//! Replays: a code's threads follow their entries of a log side by side, each by itself.
+//!
+//! Its contract: `replay`: the answer is the log's walk, its first wrong entry included, however the log was made.
+//! It knows nothing of sources, texts of logs, files.
 #![tactic(auto)]
 
 mod follower;

@@ -6,7 +6,7 @@ ghost use Rattle.sync_objects.specs.Names.{name_of};
 ghost use Rattle.sync_objects.specs.Setup.{IsWithinLimits};
 ghost use Rattle.sync_objects.specs.declared.object.ObjId.TheVariants as object;
 ghost use Rattle.sync_objects.specs.declared.operation.OpName.TheVariants as name;
-ghost use Rattle.replayer.specs.Steps.{CameIs, Comes, IsSet, may_lose};
+ghost use Rattle.replayer.specs.Steps.{Comes, IsSet, may_lose, step_of};
 
 use crate::sight::{Sight, look_at};
 use crate::step::Step;
@@ -37,18 +37,12 @@ fn may_revoke(run: &ThreadRun, lock: u16, stripe: u8) -> bool
     run.holds(lock, stripe) && run.entries() < 1 << 20 && run.revokes() < 1 << 14
 }
 
-// What an attempt is to an entry with this number.
-fn came_to(came: Attempt, number: u32) -> Step
-    ensures { CameIs came number result }
+// What an attempt is to the entry with whose number it was asked for.
+fn came_to(came: Attempt) -> Step
+    ensures { result ≡ step_of came }
 {
     match came {
-        Attempt::Done { number: made, .. } => {
-            if made == number {
-                Step::Makes
-            } else {
-                Step::Strays
-            }
-        }
+        Attempt::Done { .. } => Step::Makes,
         Attempt::NotYet { .. } => Step::Waits,
     }
 }
@@ -77,7 +71,7 @@ fn make_own(cells: &Cells, seat: &mut Seat, run: &mut ThreadRun, next: Noted) ->
     match look_at(cells, seat, op, obj, next.entry.thread, next.number) {
         Sight::Elsewhere => Step::Waits,
         Sight::Barred => Step::Departs,
-        Sight::Open => came_to(operate(cells, seat, run, op, obj), next.number),
+        Sight::Open => came_to(operate(cells, seat, run, op, obj, Some(next.number))),
     }
 }
 
@@ -109,10 +103,13 @@ fn make_revoke(
     match look_at(cells, seat, Op::Revoke, obj, next.entry.thread, next.number) {
         Sight::Elsewhere => Step::Waits,
         Sight::Barred => Step::Departs,
-        Sight::Open => came_to(
-            give_up(cells, seat, run, LockStripe { lock, stripe }),
-            next.number,
-        ),
+        Sight::Open => came_to(give_up(
+            cells,
+            seat,
+            run,
+            LockStripe { lock, stripe },
+            Some(next.number),
+        )),
     }
 }
 
@@ -142,7 +139,7 @@ fn make_stop(cells: &Cells, seat: &mut Seat, run: &mut ThreadRun, next: Noted) -
     ) {
         Sight::Elsewhere => Step::Waits,
         Sight::Barred => Step::Departs,
-        Sight::Open => came_to(stop(cells, seat, run), next.number),
+        Sight::Open => came_to(stop(cells, seat, run, Some(next.number))),
     }
 }
 
@@ -166,7 +163,7 @@ fn make_close(cells: &Cells, seat: &mut Seat, run: &mut ThreadRun, next: Noted) 
     match look_at(cells, seat, Op::Close, slot, next.entry.thread, next.number) {
         Sight::Elsewhere => Step::Waits,
         Sight::Barred => Step::Departs,
-        Sight::Open => came_to(close_slot(cells, seat, run), next.number),
+        Sight::Open => came_to(close_slot(cells, seat, run, Some(next.number))),
     }
 }
 

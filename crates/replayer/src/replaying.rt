@@ -19,6 +19,7 @@ use crew::{Crew, CrewEnd};
 use flow_code::Code;
 use log_walks::{law_unfinished, law_whole, law_wrong};
 use rr_base::List;
+use run_walk::{Remains, into_remains, whole_walk};
 use shared_cells::{Cells, Seat};
 use std::alloc::{AllocError, Global};
 use std::sync::Wait;
@@ -26,7 +27,6 @@ use std::thread::Threads;
 use sync_objects::{Entry, Setup};
 use thread_interpreter::Formula;
 use thread_step::ThreadRun;
-use run_walk::{Remains, into_remains, whole_walk};
 
 // A follower for each seat, in order.
 fn followers<'c, 'a>(

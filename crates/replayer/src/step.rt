@@ -7,8 +7,6 @@ pub enum Step {
     Goes,
     /// The entry.
     Makes,
-    /// The entry with another number than its own. No other thread makes operations with that number, so it doesn't come.
-    Strays,
     /// Nothing: the thread can't make the entry any more.
     Departs,
 }

@@ -1,9 +1,10 @@
 // A turn of a thread at its next entry.
-ghost use Rattle.std.specs.Prelude.{◌≡◌, ◌<◌, IfOk, IfSome};
+ghost use Rattle.std.specs.Prelude.{◌≡◌, ◌<◌, None, IfOk, IfSome};
 ghost use Rattle.flow_code.specs.Settle.{IsRunnable};
 ghost use Rattle.shared_cells.specs.Seats.{view_of};
 ghost use Rattle.sync_objects.specs.Setup.{IsWithinLimits};
 ghost use Rattle.weak_turns.specs.Shown.{IsCarrying};
+ghost use Rattle.weak_turns.specs.Turns.{SawNoMemory};
 ghost use Rattle.replayer.specs.Following.{TriedIs};
 ghost use Rattle.replayer.specs.Steps.{Comes, IsInStep, IsSet, told_at};
 
@@ -89,7 +90,8 @@ fn step(
     Ok(follow(cells, seat, run, next))
 }
 
-/// A turn of a thread at its next entry, if that stands before the departure. None where memory is out, which the others are told.
+/// A turn of a thread at its next entry, if that stands before the departure. None where memory is out, which the memory word then
+/// tells the others.
 pub(crate) fn try_next(
     cells: &Cells,
     seat: &mut Seat,
@@ -102,6 +104,7 @@ pub(crate) fn try_next(
     requires own { next.noted.entry.thread ≡ (view_of seat.old).from }
     requires in_step { IsInStep (told_at seat.old) next.noted }
     ensures tried { IfSome result (TriedIs cells.now seat.old seat.new run.new next) }
+    ensures out { result ≡ None → SawNoMemory cells.now (view_of seat.new).notes }
     ensures carrying { IsCarrying cells.now seat.new run.new }
     ensures thread { (view_of seat.new).from ≡ (view_of seat.old).from }
 {

@@ -1,6 +1,6 @@
 -- Each kind of step is one that the rule of the table allows, and tells what it says.
 use Rattle.std.proofs.Common.{◌≡◌, ◌≢◌, ℕ, zero, suc, ◌+◌, ◌*◌, ◌<◌, ◌≤◌, true, false, List, ◌∷◌, length, Some, refl, sym, ap, subst, ◌∙◌, ⊎_elim, arith, eqb, min}
-use Rattle.std.specs.Prelude.{slice_get, slice_set, slice_index}
+use Rattle.std.specs.Prelude.{slice_get, slice_set, slice_index, Contains}
 use Rattle.std.proofs.lemmas.Bool.{cases_eq, cases_order}
 use Rattle.std.proofs.lemmas.List.{set-get_or}
 use Rattle.std.proofs.lemmas.Option.{slice_get-get_or, same_Some, slice_get_within, get_or_from_slice_get}
@@ -28,7 +28,7 @@ use Rattle.shared_cells.specs.Views.{Note, SeatView, with_thread, looked, missed
 use Rattle.shared_cells.specs.Threads.{own, pending, after_marks, AreMarks, IsNext, IsDueIn, after_load, after_store, after_operation}
 use Rattle.shared_cells.specs.Words.{objects_end, departure_place, HasGoneOn, HaveGoneOn}
 use Rattle.shared_cells.specs.Rule.{Knowledge, IsPut, Shows, Holds}
-use Rattle.shared_cells.specs.Plays.{Mine, LoadsCell, StoresCell, exchanging, Looks, Departs, Lowers, Stays}
+use Rattle.shared_cells.specs.Plays.{Mine, LoadsCell, StoresCell, exchanging, Looks, Departs, Lowers, Puts, Stays}
 use Rattle.shared_cells.specs.declared.asked.Asked.{Asked}
 use Rattle.shared_cells.proofs.ThreadSteps.{GoesTo, goes_nowhere, goes_marks, goes_load, goes_store, goes_operation}
 use Rattle.shared_cells.proofs.Keeping.{gone_nowhere, shows_kept}
@@ -244,20 +244,37 @@ module _ (v : SeatView) (xs : List (ℕ × Asked)) (slots id : ℕ) (one : lengt
           record { slots = refl; view = refl; below = was.met found there; low = h.low found there },
         )
 
-    -- a store into a want word or the memory word
-    pub stay_allowed : (p x : ℕ) → objects_end v.code v.setup ≤ p → p ≢ departure_place v.code v.setup → p < objects_end v.code v.setup + 8 * length v.code.locks + 2 → Allows (Holds (known_of v)) slots id me p (λ _. x) (λ _ after. Stays (step slots p x 0 none) me x after)
-    stay_allowed p x high ne lt = λ s h len at fits.
-        let code = v.code in
-        let setup = v.setup in
-        let was = seen code setup s.words s.views id v h at one in
-        let size = size_is code setup s.words s.views id v h at one in
-        let same : (d : ℕ) → slice_get (slice_set s.words p x) (departure_place code setup) ≡ Some d → slice_get s.words (departure_place code setup) ≡ Some d =
-        λ d e. sym (slice_get-set_other s.words p (departure_place code setup) x (λ q. ne (sym q))) ∙ e in
-        let k = beside_keeps code setup s.words s.views id v h at one runnable limits p x v high (omega (arith, size, lt)) refl refl refl refl refl
-        (λ d e. was.met d (same d e))
-        (λ d d1 e f. (let q : d1 ≡ d = same_Some d1 d (sym (same d1 f) ∙ e) in omega (arith, q)))
-        (λ d e. put_kept s.views id v v d at (λ y c. c) (h.departed d (same d e))) in
-        (v, keeps, tt, shows_kept code setup s.words (slice_set s.words p x) s.views id v v h at one k, record { slots = refl; view = refl })
+    module _ (p x : ℕ) (high : objects_end v.code v.setup ≤ p) (ne : p ≢ departure_place v.code v.setup) (lt : p < objects_end v.code v.setup + 8 * length v.code.locks + 2) where
+      -- a store into a want word or the memory word; the view has the same threads and positions, and of the machine's words no
+      -- new notes
+      set_beside : (v1 : SeatView) → v1.code ≡ v.code → v1.setup ≡ v.setup → v1.from ≡ v.from → v1.carried ≡ v.carried → v1.positions ≡ v.positions → v1.met ≡ v.met → ((k : ℕ) (n : Note) → slice_get v1.notes k ≡ Some n → n.word < objects_end v.code v.setup → (m : ℕ) × (slice_get v.notes m ≡ Some n)) → (words : List ℕ) (views : List SeatView) → Shows v.code v.setup words views → get_elem? views id ≡ some v → Shows v.code v.setup (slice_set words p x) (slice_set views id v1)
+      set_beside v1 code_is setup_is from_is carried_is positions_are met_is notes_of words views h at =
+          let code = v.code in
+          let setup = v.setup in
+          let was = seen code setup words views id v h at one in
+          let size = size_is code setup words views id v h at one in
+          let same : (d : ℕ) → slice_get (slice_set words p x) (departure_place code setup) ≡ Some d → slice_get words (departure_place code setup) ≡ Some d =
+          λ d e. sym (slice_get-set_other words p (departure_place code setup) x (λ q. ne (sym q))) ∙ e in
+          shows_kept code setup words (slice_set words p x) views id v v1 h at one
+          (beside_keeps code setup words views id v h at one runnable limits p x v1 high (omega (arith, size, lt)) code_is setup_is from_is carried_is notes_of
+          (λ d e. subst (λ m. d ≤ m) (sym met_is) (was.met d (same d e)))
+          (λ d d1 e f. (let q : d1 ≡ d = same_Some d1 d (sym (same d1 f) ∙ e) in omega (arith, q)))
+          (λ d e. put_kept views id v v1 d at (λ y c. subst (λ ps. Contains ps y) (sym positions_are) c) (h.departed d (same d e))))
+
+      -- one that tells nothing
+      pub stay_allowed : Allows (Holds (known_of v)) slots id me p (λ _. x) (λ _ after. Stays (step slots p x 0 none) me x after)
+      stay_allowed = λ s h len at fits.
+          (v, keeps, tt, set_beside v refl refl refl refl refl refl (λ k n e low. (k, e)) s.words s.views h at, record { slots = refl; view = refl })
+
+      -- only the first note is new, which is of the word itself
+      older_note : (k : ℕ) (n : Note) → slice_get (looked v p x).notes k ≡ Some n → n.word < objects_end v.code v.setup → (m : ℕ) × (slice_get v.notes m ≡ Some n)
+      older_note zero n e low = let here : p ≡ n.word = ap (λ (z : Note). z.word) (same_Some (record { failed = false; word = p; value = x }) n e) in absurd (omega (arith, here, low, high))
+      older_note (suc k) n e low = (k, e)
+
+      -- one that the seat takes note of
+      pub put_allowed : Allows (Holds (known_of v)) slots id me p (λ _. x) (λ _ after. Puts (step slots p x 0 none) me x after)
+      put_allowed = λ s h len at fits.
+          (looked v p x, keeps, tt, set_beside (looked v p x) refl refl refl refl refl refl older_note s.words s.views h at, record { slots = refl; view = refl })
 
     -- the departure word is lowered to a position, if that is less
     pub lower_allowed : (position : ℕ) → Allows (Holds (known_of v)) slots id me (departure_place v.code v.setup) (λ w. min w position) (λ found after. Lowers (step slots (departure_place v.code v.setup) position 0 none) me found after)
@@ -273,7 +290,7 @@ module _ (v : SeatView) (xs : List (ℕ × Asked)) (slots id : ℕ) (one : lengt
         let x = min found position in
         let v1 = lowered v position found in
         let is : (d : ℕ) → slice_get (slice_set s.words p x) p ≡ Some d → x ≡ d = λ d e. same_Some x d (sym (slice_get-set_within s.words p x inside) ∙ e) in
-        let k = beside_keeps code setup s.words s.views id v h at one runnable limits p x v1 (omega arith) inside refl refl refl refl refl
+        let k = beside_keeps code setup s.words s.views id v h at one runnable limits p x v1 (omega arith) inside refl refl refl refl (λ k n e low. (k, e))
         (λ d e. subst (λ z. z ≤ v1.met) (is d e) (le-min (le_trans (min-le_left found position) (was.met found there)) (omega arith)))
         (λ d d1 e f. (let q : found ≡ d = same_Some found d (sym there ∙ e) in subst (λ z. z ≤ d) (is d1 f) (subst (λ z. x ≤ z) q (min-le_left found position))))
         (λ d e. subst (IsPut (slice_set s.views id v1)) (is d e) (put_lowered s.views id v position found at (h.departed found there))) in

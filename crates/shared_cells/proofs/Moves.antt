@@ -154,9 +154,9 @@ module _ (code : Code) (s : SetupView) (words : List ℕ) (views : List SeatView
               put_kept views id v (with_thread v now) d at (λ y c. c) (subst (IsPut views) (sym same) (h.departed before.0 before.1));
         }
 
-    -- a word that is none of the machine changes, and the view has the same threads
-    pub beside_keeps : (p x : ℕ) (v1 : SeatView) → objects_end code s ≤ p → p < length words → v1.code ≡ v.code → v1.setup ≡ v.setup → v1.from ≡ v.from → v1.carried ≡ v.carried → v1.notes ≡ v.notes → ((d : ℕ) → slice_get (slice_set words p x) (departure_place code s) ≡ Some d → d ≤ v1.met) → ((d d1 : ℕ) → slice_get words (departure_place code s) ≡ Some d → slice_get (slice_set words p x) (departure_place code s) ≡ Some d1 → d1 ≤ d) → ((d : ℕ) → slice_get (slice_set words p x) (departure_place code s) ≡ Some d → IsPut (slice_set views id v1) d) → Keeps code s words (slice_set words p x) views id v v1 h
-    beside_keeps p x v1 high inside code_is setup_is from_is carried_is notes_are met falls departed =
+    -- a word that is none of the machine changes, and the view has the same threads, and of the machine's words no new notes
+    pub beside_keeps : (p x : ℕ) (v1 : SeatView) → objects_end code s ≤ p → p < length words → v1.code ≡ v.code → v1.setup ≡ v.setup → v1.from ≡ v.from → v1.carried ≡ v.carried → ((k : ℕ) (n : Note) → slice_get v1.notes k ≡ Some n → n.word < objects_end code s → (m : ℕ) × (slice_get v.notes m ≡ Some n)) → ((d : ℕ) → slice_get (slice_set words p x) (departure_place code s) ≡ Some d → d ≤ v1.met) → ((d d1 : ℕ) → slice_get words (departure_place code s) ≡ Some d → slice_get (slice_set words p x) (departure_place code s) ≡ Some d1 → d1 ≤ d) → ((d : ℕ) → slice_get (slice_set words p x) (departure_place code s) ≡ Some d → IsPut (slice_set views id v1) d) → Keeps code s words (slice_set words p x) views id v v1 h
+    beside_keeps p x v1 high inside code_is setup_is from_is carried_is notes_of met falls departed =
         let len = state_length in
         let goes_on : (k old new : ℕ) → cells_of code s ≤ k → k < objects_end code s → slice_get words k ≡ Some old → slice_get (slice_set words p x) k ≡ Some new → HasGoneOn old new =
         λ k old new low lt e e1.
@@ -175,7 +175,9 @@ module _ (code : Code) (s : SetupView) (words : List ℕ) (views : List SeatView
           carries = λ k told e. ap (λ n. slice_get h.state.threads (n + k)) from_is ∙ seen.carries k told (ap (λ xs. slice_get xs k) (sym carried_is) ∙ e);
           elsewhere = λ k ne. refl;
           goes_on = goes_on;
-          notes = subst (λ ns. HaveGoneOn code s ns (slice_set words p x)) (sym notes_are) (notes_kept v.notes (slice_set words p x) seen.notes goes_on);
+          notes = λ k n now e low high_end there.
+              let was = notes_of k n e high_end in
+              notes_kept v.notes (slice_set words p x) seen.notes goes_on was.0 n now was.1 low high_end there;
           met = met;
           falls = falls;
           departed = departed;

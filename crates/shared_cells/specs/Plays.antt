@@ -89,6 +89,11 @@ pub record Lowers (step : Step Asked) (me : Mine) (found : ℕ) (after : Mine) :
   pub below : found ≤ me.0.met
   pub low : found ≤ never
 
+-- a store of a value that the seat has met then
+pub record Puts (step : Step Asked) (me : Mine) (written : ℕ) (after : Mine) : Type 0 where
+  pub slots : after.1 ≡ me.1
+  pub view : after.0 ≡ looked me.0 step.word step.first
+
 -- a step that tells nothing
 pub record Stays (step : Step Asked) (me : Mine) (found : ℕ) (after : Mine) : Type 0 where
   pub slots : after.1 ≡ me.1

@@ -1,5 +1,5 @@
 -- Seats of the table as callers see them.
-use Rattle.std.specs.Prelude.{◌≡◌, ◌≢◌, ℕ, ℤ, ◌<◌, List, [], ◌∷◌, length, Some, slice_get, ◌⊎◌, Bool, not, ◌==◌}
+use Rattle.std.specs.Prelude.{◌≡◌, ◌≢◌, ℕ, ℤ, ◌<◌, List, [], ◌∷◌, length, Option, Some, None, slice_get, ◌⊎◌, Bool, true, false, not, ◌==◌}
 use Rattle.atomic_table.specs.Seated.{TableId}
 use Rattle.sync_objects.specs.Setup.{SetupView}
 use Rattle.sync_objects.specs.Advance.{advanced, NotAllowed, Advances}
@@ -50,19 +50,25 @@ place_in v obj = place_of (cells_of v.code v.setup) obj
 
 -- ---- what an attempt has come to
 
--- the object's word allowed the operation, which was made
-pub record IsDone (old new : Seat) (o : Op) (obj : ObjId) (answer : ℤ) (number : ℕ) : Type 0 where
+-- an operation with this number is asked for; None asks for any number
+abbrev pub is_asked : Option ℕ → ℕ → Bool
+is_asked None number = true
+is_asked (Some asked) number = number == asked
+
+-- the object's word allowed the operation, which was made with a number that is asked for
+pub record IsDone (at : Option ℕ) (old new : Seat) (o : Op) (obj : ObjId) (answer : ℤ) (number : ℕ) : Type 0 where
   pub seen : ℕ
   pub next : ℕ
   pub moves : advanced o (view_of old).from seen ≡ Advances next answer
   pub number_is : number ≡ number_of seen
+  pub asked : is_asked at number ≡ true
   pub later : GoesOn (view_of old) (place_in (view_of old) obj) seen
   pub makes : Makes (looked (view_of old) (place_in (view_of old) obj) seen) (place_in (view_of old) obj) old.marks o obj seen answer (view_of new)
   pub marks : new.marks ≡ 0
 
--- the object's word doesn't allow the operation
-pub record IsRefused (old new : Seat) (o : Op) (obj : ObjId) (seen : ℕ) : Type 0 where
-  pub refused : advanced o (view_of old).from seen ≡ NotAllowed
+-- the object's word doesn't allow the operation, or not with a number that is asked for
+pub record IsRefused (at : Option ℕ) (old new : Seat) (o : Op) (obj : ObjId) (seen : ℕ) : Type 0 where
+  pub refused : (advanced o (view_of old).from seen ≡ NotAllowed) ⊎ (is_asked at (number_of seen) ≡ false)
   pub found : IsReachedWith (view_of old) (place_in (view_of old) obj) seen
   pub later : GoesOn (view_of old) (place_in (view_of old) obj) seen
   pub view : view_of new ≡ looked (view_of old) (place_in (view_of old) obj) seen
@@ -78,9 +84,9 @@ pub record HasMoved (old new : Seat) (obj : ObjId) (seen : ℕ) : Type 0 where
   pub marks : new.marks ≡ old.marks
 
 -- made; or refused by the word, or the word was changed between
-abbrev pub AttemptIs : (old new : Seat) → Op → ObjId → Attempt → Type 0
-AttemptIs old new o obj (attempt.Done answer number) = IsDone old new o obj answer number
-AttemptIs old new o obj (attempt.NotYet seen) = IsRefused old new o obj seen ⊎ HasMoved old new obj seen
+abbrev pub AttemptIs : Option ℕ → (old new : Seat) → Op → ObjId → Attempt → Type 0
+AttemptIs at old new o obj (attempt.Done answer number) = IsDone at old new o obj answer number
+AttemptIs at old new o obj (attempt.NotYet seen) = IsRefused at old new o obj seen ⊎ HasMoved old new obj seen
 
 -- ---- what a look tells
 

@@ -4,7 +4,8 @@ use Rattle.sync_objects.specs.Setup.{SetupView}
 use Rattle.flow_code.specs.declared.code.Code.{Code}
 use Rattle.core_run.specs.Machine.{Told}
 
--- a word of the table that the seat has met: by a look, or by an exchange that found another word there than it asked for
+-- a word of the table that the seat has met: by a look, by an exchange that found another word there than it asked for, or by
+-- setting it
 pub record Note : Type 0 where
   pub failed : Bool
   pub word : ℕ
@@ -42,7 +43,7 @@ nobody = record {
 abbrev pub with_thread : SeatView → Told → SeatView
 with_thread v told = record v { carried = told ∷ [] }
 
--- a look has found a value at a word
+-- a look has found a value at a word, or the seat has set the word to it
 abbrev pub looked : SeatView → (word value : ℕ) → SeatView
 looked v word value = record v { notes = record { failed = false; word = word; value = value } ∷ v.notes }
 

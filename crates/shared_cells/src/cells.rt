@@ -1,11 +1,12 @@
 // The words and the calls on them.
-ghost use Rattle.std.specs.Prelude.{◌≡◌, ◌+◌, ◌*◌, ◌<◌, ◌≤◌, ◌++◌, [], ◌∷◌, true, length, IfOk};
+ghost use Rattle.std.specs.Prelude.{◌≡◌, ◌+◌, ◌*◌, ◌<◌, ◌≤◌, ◌++◌, [], ◌∷◌, true, length, None, IfOk};
 ghost use Rattle.std.specs.Vec.{vec_len, vec_capacity};
 ghost use Rattle.word_semantics.specs.declared.event.Action.TheVariants as action;
 ghost use Rattle.flow_code.specs.Settle.{IsRunnable};
 ghost use Rattle.core_run.specs.Words.{cells_of, has_object, place_of};
 ghost use Rattle.shared_cells.specs.Views.{looked, departing, lowered};
 ghost use Rattle.shared_cells.specs.Words.{objects_end, departure_place, memory_place, first_words};
+ghost use Rattle.shared_cells.specs.Seats.{is_asked};
 ghost use Rattle.shared_cells.specs.Threads.{loaded, stored};
 
 use crate::asked::Asked;
@@ -13,7 +14,7 @@ use crate::attempt::Attempt;
 use crate::closed::Closed;
 use crate::dealing::{deal, join};
 use crate::seat::Seat;
-use crate::steps::{Depart, Exchange, Load, Look, Lower, Part, Rule, Stay, Store, Whole};
+use crate::steps::{Depart, Exchange, Load, Look, Lower, Part, Put, Rule, Stay, Store, Whole};
 use crate::view::{TableInput, View};
 use atomic_table::Table;
 use core_run::{place_of, start_words};
@@ -70,6 +71,16 @@ fn put_word(words: &mut Vec<u64>, word: u64)
     match words.push(word) {
         Ok(()) => {}
         Err(_) => unreachable!(),
+    }
+}
+
+// Whether an operation with this number is asked for. None asks for any number.
+fn is_asked(at: Option<u32>, number: u32) -> bool
+    ensures { result ≡ is_asked at number }
+{
+    match at {
+        Some(asked) => number == asked,
+        None => true,
     }
 }
 
@@ -155,10 +166,26 @@ impl<'a> Cells<'a> {
         requires object { has_object self.now.code self.now.setup obj ≡ true }
         requires due { HasDue seat.old op obj }
         ensures seat { IsSeatOf self.now seat.new }
-        ensures is { AttemptIs seat.old seat.new op obj result }
+        ensures is { AttemptIs None seat.old seat.new op obj result }
+    {
+        self.attempt_at(seat, obj, op, None)
+    }
+
+    /// Attempts an operation as `attempt` does. Where it is asked for with a number, it is made as the object's operation with
+    /// that number, or not at all.
+    pub fn attempt_at(&self, seat: &mut Seat, obj: ObjId, op: Op, at: Option<u32>) -> Attempt
+        requires seat { IsSeatOf self.now seat.old }
+        requires object { has_object self.now.code self.now.setup obj ≡ true }
+        requires due { HasDue seat.old op obj }
+        ensures seat { IsSeatOf self.now seat.new }
+        ensures is { AttemptIs at seat.old seat.new op obj result }
     {
         let place = place_of(self.cells, obj);
         let seen = self.table.shared.load::<Look>(&mut seat.seat, place);
+        let number = number_of(seen);
+        if !is_asked(at, number) {
+            return Attempt::NotYet { seen };
+        }
         let Some((next, answer)) = advance(op, seat.thread, seen) else {
             return Attempt::NotYet { seen };
         };
@@ -176,10 +203,7 @@ impl<'a> Cells<'a> {
             return Attempt::NotYet { seen: found };
         }
         seat.marks = 0;
-        Attempt::Done {
-            answer,
-            number: number_of(seen),
-        }
+        Attempt::Done { answer, number }
     }
 
     /// The word of an object, as this look finds it.
@@ -232,15 +256,16 @@ impl<'a> Cells<'a> {
         self.table.shared.load::<Look>(&mut seat.seat, place) != 0
     }
 
-    /// Says that memory has run out.
+    /// Says that memory has run out: it sets the memory word.
     pub fn no_memory(&self, seat: &mut Seat)
         requires seat { IsSeatOf self.now seat.old }
         ensures seat { IsSeatOf self.now seat.new }
-        ensures same { IsSameSeat seat.old seat.new }
+        ensures view { view_of seat.new ≡ looked (view_of seat.old) (memory_place self.now.code self.now.setup) 1 }
+        ensures marks { seat.new.marks ≡ seat.old.marks }
     {
         self.table
             .shared
-            .store::<Stay>(&mut seat.seat, self.memory, 1);
+            .store::<Put>(&mut seat.seat, self.memory, 1);
     }
 
     /// Whether memory has run out, as this look finds it.

@@ -1,6 +1,8 @@
-//! The words of all cells and objects, as threads share them, and a seat for each thread. It stands on `core_run` and the kit's
-//! `atomic_table`. It promises that at every moment the words and what the seats know show a state that a run leads to: each
-//! load, store and attempted operation is one step of that run, and no call waits.
+//! The words of all cells and objects, as threads share them, and a seat for each thread.
+//!
+//! Its contract: `load`, `store` and a done `attempt` are one step each of a run that the words and the seats show;
+//! `close`: one run leads to all that is left; no call waits.
+//! It knows nothing of how a thread comes to its next action.
 #![tactic(auto)]
 
 mod asked;

@@ -1,7 +1,7 @@
 // The rule of the table, and what each kind of step on it tells.
 ghost use Rattle.shared_cells.specs.Rule.{Holds, everyone, first_part, other_part, both};
 ghost use Rattle.shared_cells.specs.Views.{nobody};
-ghost use Rattle.shared_cells.specs.Plays.{LoadsCell, StoresCell, exchanging, Looks, Departs, Lowers, Stays};
+ghost use Rattle.shared_cells.specs.Plays.{LoadsCell, StoresCell, exchanging, Looks, Departs, Lowers, Puts, Stays};
 
 use crate::asked::Asked;
 use crate::view::{TableInput, View};
@@ -56,6 +56,13 @@ pub struct Lower;
 
 impl Play<Asked, View> for Lower {
     ghost then = { Lowers };
+}
+
+/// A store of a value that the seat has met then.
+pub struct Put;
+
+impl Play<Asked, View> for Put {
+    ghost then = { Puts };
 }
 
 /// A step that tells nothing.

@@ -1,5 +1,5 @@
 -- What the thread's own next action comes to.
-use Rattle.std.proofs.Common.{◌≡◌, ℕ, refl, sym, ap, subst, ◌∙◌, inl, inr, ⊎_elim, arith}
+use Rattle.std.proofs.Common.{◌≡◌, ℕ, None, refl, sym, ap, subst, ◌∙◌, inl, inr, ⊎_elim, arith}
 use Rattle.word_semantics.specs.declared.event.Action.TheVariants as action
 use Rattle.flow_code.specs.Next.{action_at}
 use Rattle.flow_code.specs.Settle.{IsRunnable}
@@ -27,17 +27,18 @@ not_quiet v n r c runnable rests e =
     (ap (action_at v.code v.setup v.from) (sym (settled_in v.code v.setup v.from r r.flow.kept.thread c.shows.code_is c.shows.setup_is c.shows.number_is) ∙ rests) ∙ acts v n r c action.Quiet e)
 
 -- an attempt stays what it was where the seat stays
-pub attempt_same : (old mid new : Seat) (o : Op) (obj : ObjId) (came : Attempt) → IsSameSeat mid new → AttemptIs old mid o obj came → AttemptIs old new o obj came
+pub attempt_same : (old mid new : Seat) (o : Op) (obj : ObjId) (came : Attempt) → IsSameSeat mid new → AttemptIs None old mid o obj came → AttemptIs None old new o obj came
 attempt_same old mid new o obj (attempt.Done answer number) s a = record {
   seen = a.seen;
   next = a.next;
   moves = a.moves;
   number_is = a.number_is;
+  asked = a.asked;
   later = a.later;
   makes = subst (Makes (looked (view_of old) (place_in (view_of old) obj) a.seen) (place_in (view_of old) obj) old.marks o obj a.seen answer) (sym s.view) a.makes;
   marks = s.marks ∙ a.marks;
 }
 attempt_same old mid new o obj (attempt.NotYet seen) s a = ⊎_elim
-    (λ (x : IsRefused old mid o obj seen). inl (record { refused = x.refused; found = x.found; later = x.later; view = s.view ∙ x.view; marks = s.marks ∙ x.marks }))
+    (λ (x : IsRefused None old mid o obj seen). inl (record { refused = x.refused; found = x.found; later = x.later; view = s.view ∙ x.view; marks = s.marks ∙ x.marks }))
     (λ (x : HasMoved old mid obj seen). inr (record { was = x.was; differs = x.differs; found = x.found; later = x.later; view = s.view ∙ x.view; marks = s.marks ∙ x.marks }))
     a

@@ -1,8 +1,8 @@
 -- A turn that begins with a look at the memory word.
-use Rattle.std.proofs.Common.{◌≡◌, ℕ, Bool, false, List, [], ◌∷◌, ◌++◌, Some, None, refl, subst, arith}
+use Rattle.std.proofs.Common.{◌≡◌, ℕ, Bool, true, false, List, [], ◌∷◌, ◌++◌, Some, None, refl, subst, arith}
 use Rattle.shared_cells.specs.Rule.{Board}
-use Rattle.shared_cells.specs.Seats.{IsSameSeat, IsSeatOf, Tells}
-use Rattle.shared_cells.specs.Views.{Note}
+use Rattle.shared_cells.specs.Seats.{IsSeatOf, Tells, view_of}
+use Rattle.shared_cells.specs.Views.{Note, looked}
 use Rattle.shared_cells.specs.Words.{memory_place}
 use Rattle.shared_cells.specs.declared.seat.Seat.{Seat}
 use Rattle.thread_step.specs.Steps.{Stepping}
@@ -10,8 +10,8 @@ use Rattle.weak_turns.specs.Finding.{Advances, Steps}
 use Rattle.weak_turns.specs.Shown.{IsCarrying}
 use Rattle.weak_turns.specs.Turns.{Meets, Saw}
 use Rattle.weak_turns.specs.declared.played.Played.{Played}
-use Rattle.weak_turns.proofs.Noting.{newer, older, step_on, meets_same, meets_look, meets_then, carrying_on}
-use Rattle.weak_turns.proofs.Searching.{unset}
+use Rattle.weak_turns.proofs.Noting.{newer, older, step_on, meets_look, meets_then, carrying_on}
+use Rattle.weak_turns.proofs.Searching.{set_or_not, unset}
 
 module _ (cells : Board) (a b : Seat) (lacks : Bool) (tells : Tells a b (memory_place cells.code cells.setup) lacks) where
   abbrev word : ℕ
@@ -27,12 +27,14 @@ module _ (cells : Board) (a b : Seat) (lacks : Bool) (tells : Tells a b (memory_
   carried r of h = carrying_on cells a b r note looked_at of h
 
   -- the machine was seen to be out of memory
-  pub advances_out : (since : List ℕ) (budget turn : ℕ) → Advances cells a b since since budget turn None
-  advances_out since budget turn = (note, looked_at, refl)
+  pub advances_out : (since : List ℕ) (budget turn : ℕ) → lacks ≡ true → Advances cells a b since since budget turn None
+  advances_out since budget turn out = (note, looked_at, (tells.value, (0, omega arith, refl), set_or_not tells.value lacks tells.is out), refl)
 
-  -- or ran out of it
-  pub advances_none : (c : Seat) (since : List ℕ) (budget turn : ℕ) → IsSameSeat b c → Advances cells a c since since budget turn None
-  advances_none c since budget turn same = (note, meets_then a b c note [] looked_at (meets_same b c same.view same.marks), refl)
+  -- or ran out of it, and its word was set
+  pub advances_none : (c : Seat) (since : List ℕ) (budget turn : ℕ) → view_of c ≡ looked (view_of b) word 1 → c.marks ≡ b.marks → Advances cells a c since since budget turn None
+  advances_none c since budget turn view marks =
+      let set : List Note = record { failed = false; word = word; value = 1 } ∷ [] in
+      (set ++ note, meets_then a b c note set looked_at (meets_look b c word 1 view marks), (1, (0, omega arith, refl), λ e. cc), refl)
 
   -- a step is made
   pub advances_some : (new : Seat) (since later : List ℕ) (budget turn : ℕ) (p : Played) → lacks ≡ false → Steps cells b new since later budget turn p → Advances cells a new since later budget turn (Some p)

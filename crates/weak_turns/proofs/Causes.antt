@@ -60,7 +60,7 @@ module _ (cells : Board) (a b : Seat) (since : List ℕ) (budget turn : ℕ) whe
     meets : Meets a c all
     meets = meets_then a b c f.fresh g.fresh f.meets g.meets
 
-  pub revoked : (f : FindsEnd cells a b None) (c new : Seat) (p : LockStripe) (came : Attempt) → FindsRevoke cells b c since budget turn (Some p) → AttemptIs c new op.Revoke (object.Weak p.lock p.stripe) came → Steps cells a new since since budget turn (played.Tried op.Revoke (object.Weak p.lock p.stripe) came)
+  pub revoked : (f : FindsEnd cells a b None) (c new : Seat) (p : LockStripe) (came : Attempt) → FindsRevoke cells b c since budget turn (Some p) → AttemptIs None c new op.Revoke (object.Weak p.lock p.stripe) came → Steps cells a new since since budget turn (played.Tried op.Revoke (object.Weak p.lock p.stripe) came)
   revoked f c new p came g h = record {
     mid = c;
     fresh = g.fresh ++ f.fresh;

@@ -1,5 +1,5 @@
 -- After each step the run shows the thread of its seat again.
-use Rattle.std.proofs.Common.{◌≡◌, ◌≢◌, ℕ, suc, ◌<◌, ◌^◌, ◌&&◌, not, nat_lt, true, false, List, [], ◌∷◌, ◌++◌, ℤ, pos, refl, sym, ap, subst, ◌∙◌, inl, inr, ⊎_elim, arith}
+use Rattle.std.proofs.Common.{◌≡◌, ◌≢◌, ℕ, suc, ◌<◌, ◌^◌, ◌&&◌, not, nat_lt, true, false, Option, List, [], ◌∷◌, ◌++◌, ℤ, pos, refl, sym, ap, subst, ◌∙◌, inl, inr, ⊎_elim, arith}
 use Rattle.std.proofs.lemmas.Bool.{lt-ltb}
 use Rattle.std.proofs.lemmas.Int.{of_z-to_z}
 use mir.Syntax.{w64}
@@ -76,9 +76,9 @@ own_way op.Print obj e = refl
 -- ---- attempts
 
 -- an attempt that has failed leaves the thread
-pub not_yet : (old new : Seat) (r : Stepping) (o : Op) (obj : ObjId) (seen : ℕ) → AttemptIs old new o obj (attempt.NotYet seen) → Carries (view_of old) old.marks r → Carries (view_of new) new.marks r
-not_yet old new r o obj seen a c = ⊎_elim
-    (λ (x : IsRefused old new o obj seen). carries_at (looked (view_of old) _ seen) (view_of new) old.marks new.marks r x.view x.marks (noted_on (view_of old) old.marks r _ c))
+pub not_yet : (at : Option ℕ) (old new : Seat) (r : Stepping) (o : Op) (obj : ObjId) (seen : ℕ) → AttemptIs at old new o obj (attempt.NotYet seen) → Carries (view_of old) old.marks r → Carries (view_of new) new.marks r
+not_yet at old new r o obj seen a c = ⊎_elim
+    (λ (x : IsRefused at old new o obj seen). carries_at (looked (view_of old) _ seen) (view_of new) old.marks new.marks r x.view x.marks (noted_on (view_of old) old.marks r _ c))
     (λ (x : HasMoved old new obj seen). carries_at (missed (looked (view_of old) _ x.was) _ seen) (view_of new) old.marks new.marks r x.view x.marks (noted_on (view_of old) old.marks r _ c))
     a
 
@@ -88,8 +88,8 @@ pub record Operated (v : SeatView) (n : ℕ) (o : Op) (obj : ObjId) (answer : �
   pub stripes : HasItsStripes (after_operation v.code v.setup v.from (pending v n) o obj answer number).thread
 
 -- an operation is made
-pub done : (old new : Seat) (q : Stepping) (o : Op) (obj : ObjId) (answer : ℤ) (number : ℕ) → AttemptIs old new o obj (attempt.Done answer number) → Operated (view_of old) old.marks o obj answer number q → Carries (view_of new) new.marks q
-done old new q o obj answer number a h =
+pub done : (at : Option ℕ) (old new : Seat) (q : Stepping) (o : Op) (obj : ObjId) (answer : ℤ) (number : ℕ) → AttemptIs at old new o obj (attempt.Done answer number) → Operated (view_of old) old.marks o obj answer number q → Carries (view_of new) new.marks q
+done at old new q o obj answer number a h =
     let v = view_of old in
     let seen : SeatView = looked v (place_in v obj) a.seen in
     let now = λ (k : ℕ). after_operation v.code v.setup v.from (pending v old.marks) o obj answer k in

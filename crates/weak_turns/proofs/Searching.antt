@@ -19,7 +19,7 @@ use Rattle.weak_turns.specs.Turns.{thread_of, want_place, IsHeldLong, AreUnwante
 use Rattle.weak_turns.specs.declared.revokes.LockStripe.{LockStripe}
 use Rattle.weak_turns.proofs.Noting.{Within, older, meets_none, meets_look, meets_then}
 
-set_or_not : (w : ℕ) (b : Bool) → b ≡ is_set w → b ≡ true → w ≢ 0
+pub set_or_not : (w : ℕ) (b : Bool) → b ≡ is_set w → b ≡ true → w ≢ 0
 set_or_not w b e f z = true≢false (sym f ∙ e ∙ ap not (eq-eqb w 0 z))
 
 pub unset : (w : ℕ) (b : Bool) → b ≡ is_set w → b ≡ false → w ≡ 0

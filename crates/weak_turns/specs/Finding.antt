@@ -13,7 +13,7 @@ use Rattle.sync_objects.specs.declared.object.ObjId.{ObjId}
 use Rattle.sync_objects.specs.declared.object.ObjId.TheVariants as object
 use Rattle.sync_objects.specs.declared.operation.Op.TheVariants as op
 use Rattle.thread_step.specs.Steps.{Stepping, IsSameRun}
-use Rattle.weak_turns.specs.Turns.{object_place, thread_of, number_of, want_place, Meets, EndIs, Saw, AreUnwanted, RevokeIs, IsHeldLong, StepIs}
+use Rattle.weak_turns.specs.Turns.{object_place, thread_of, number_of, want_place, Meets, EndIs, Saw, SawNoMemory, AreUnwanted, RevokeIs, IsHeldLong, StepIs}
 use Rattle.weak_turns.specs.declared.ends.End.{End}
 use Rattle.weak_turns.specs.declared.ends.End.TheVariants as end
 use Rattle.weak_turns.specs.declared.played.Played.{Played}
@@ -107,9 +107,9 @@ pub record HasRested (r q : Stepping) : Type 0 where
   pub reads : q.reads ≡ r.reads
   pub rest : settled q.flow.code q.flow.setup q.flow.number q.flow.kept.thread ≡ settled r.flow.code r.flow.setup r.flow.number r.flow.kept.thread
 
--- a turn's step, or none where the machine was seen to be out of memory, or ran out of it
+-- a turn's step, or none where the memory word was set when the seat met it
 abbrev pub Advances : Board → (old new : Seat) → (since later : List ℕ) → (budget turn : ℕ) → Option Played → Type 0
-Advances cells old new since later budget turn None = (fresh : List Note) × Meets old new fresh × (later ≡ since)
+Advances cells old new since later budget turn None = (fresh : List Note) × Meets old new fresh × SawNoMemory cells fresh × (later ≡ since)
 Advances cells old new since later budget turn (Some p) = (mid : Seat) × (fresh : List Note) × Meets old mid fresh × Saw fresh (memory_place cells.code cells.setup) 0 × StepIs cells mid new since later budget turn fresh p
 
 -- a stop ends a thread that has begun; a close, one never started
@@ -119,6 +119,6 @@ is_stop end.Close = false
 
 -- what the attempt at an end has come to
 abbrev pub HasFinished : (old new : Seat) → End → Played → Type 0
-HasFinished old new end.Stop (played.Tried o obj came) = (o ≡ op.Stop) × (obj ≡ object.Halt) × AttemptIs old new op.Stop object.Halt came
-HasFinished old new end.Close (played.Tried o obj came) = (o ≡ op.Close) × (obj ≡ object.Slot (number_of old)) × AttemptIs old new op.Close (object.Slot (number_of old)) came
+HasFinished old new end.Stop (played.Tried o obj came) = (o ≡ op.Stop) × (obj ≡ object.Halt) × AttemptIs None old new op.Stop object.Halt came
+HasFinished old new end.Close (played.Tried o obj came) = (o ≡ op.Close) × (obj ≡ object.Slot (number_of old)) × AttemptIs None old new op.Close (object.Slot (number_of old)) came
 HasFinished old new end p = ⊥

@@ -44,9 +44,13 @@ pub record Meets (old now : Seat) (fresh : List Note) : Type 0 where
   pub view : view_of now ≡ record (view_of old) { notes = fresh ++ (view_of old).notes }
   pub marks : now.marks ≡ old.marks
 
--- a look has found this value at the word
+-- the seat has met this value at the word
 abbrev pub Saw : List Note → (word value : ℕ) → Type 0
 Saw fresh word value = Contains fresh (record { failed = false; word = word; value = value })
+
+-- the memory word was set when the seat met it: it was found so, or the seat has set it
+abbrev pub SawNoMemory : Board → List Note → Type 0
+SawNoMemory cells fresh = (w : ℕ) × Saw fresh (memory_place cells.code cells.setup) w × (w ≢ 0)
 
 -- where the word of an object stands, and the want word of a stripe
 abbrev pub object_place : Board → ObjId → ℕ
@@ -169,7 +173,7 @@ since_after since turn o obj came = since
 abbrev pub ActIs : Board → (old new : Seat) → (since later : List ℕ) → (turn : ℕ) → Played → Type 0
 ActIs cells old new since later turn played.Nothing = (a : Action) × HasNext old a × IsStuck cells a × HasMarked old new 0 × (later ≡ since)
 ActIs cells old new since later turn played.Went = (a : Action) × HasNext old a × AccessIs old new a × (later ≡ since)
-ActIs cells old new since later turn (played.Tried o obj came) = (way_of o obj ≡ Own) × HasNext old (action.Operate o obj) × AttemptIs old new o obj came × (later ≡ since_after since turn o obj came)
+ActIs cells old new since later turn (played.Tried o obj came) = (way_of o obj ≡ Own) × HasNext old (action.Operate o obj) × AttemptIs None old new o obj came × (later ≡ since_after since turn o obj came)
 
 -- ---- a turn
 
@@ -187,7 +191,7 @@ IsCause (Closes slot) cells mid since budget turn fresh o obj = (slot ≡ number
 
 -- what is done where the seat stands so, after these words were met
 abbrev pub StepIs : Board → (mid new : Seat) → (since later : List ℕ) → (budget turn : ℕ) → List Note → Played → Type 0
-StepIs cells mid new since later budget turn fresh (played.Tried o obj came) = IsCause (way_of o obj) cells mid since budget turn fresh o obj × AttemptIs mid new o obj came × (later ≡ since_after since turn o obj came)
+StepIs cells mid new since later budget turn fresh (played.Tried o obj came) = IsCause (way_of o obj) cells mid since budget turn fresh o obj × AttemptIs None mid new o obj came × (later ≡ since_after since turn o obj came)
 StepIs cells mid new since later budget turn fresh p = IsFree cells mid since budget turn fresh × ActIs cells mid new since later turn p
 
 -- a turn of a thread that hasn't ended, which has seen that there is memory
@@ -200,11 +204,12 @@ pub record Plays (old new : Carrying) (p : Played) : Type 0 where
   pub lives : new.is_out ≡ false
   pub step : StepIs old.cells mid new.seat old.since new.since old.budget new.turns fresh p
 
--- a turn of a job that is over
+-- a turn of a job that is over: it was over before, or this turn has met the memory word, which was set
 pub record Rests (old new : Carrying) : Type 0 where
   pub over : is_over new ≡ true
   pub fresh : List Note
   pub meets : Meets old.seat new.seat fresh
+  pub cause : (is_over old ≡ true) ⊎ SawNoMemory old.cells fresh
   pub since : new.since ≡ old.since
 
 -- what a turn has come to

@@ -104,7 +104,7 @@ pub(crate) fn act(
             if !has_object(cells.code(), cells.setup(), cells.cell_count(), obj) {
                 return Played::Nothing;
             }
-            let came = operate(cells, seat, run, op, obj);
+            let came = operate(cells, seat, run, op, obj, None);
             tell_want(cells, seat, op, obj, came);
             note_take(since, turn, op, obj, came);
             Played::Tried { op, obj, came }

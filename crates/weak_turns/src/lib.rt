@@ -1,6 +1,8 @@
-//! Carriers: each runs one thread of a code in turns, over words that all threads share. It stands on `shared_cells`,
-//! `thread_step` and `crew`. It promises that a turn is one step of the machine, or an operation that wasn't allowed, or that
-//! the job is over; and that a stripe is revoked, and a thread stopped or closed, only for its cause.
+//! Carriers: each runs one thread of a code in turns, over words that all threads share.
+//!
+//! Its contract: `Carrier::play`: a turn is one step of the machine, or an operation that wasn't allowed, with its
+//! cause; its run shows the thread that its seat knows.
+//! It knows nothing of how jobs are given turns, what becomes of the log.
 #![tactic(auto)]
 
 mod acts;

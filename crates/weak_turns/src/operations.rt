@@ -17,17 +17,17 @@ use shared_cells::{Attempt, Cells, Seat};
 use sync_objects::{ObjId, Op};
 use thread_step::ThreadRun;
 
-/// Attempts to stop the thread.
-pub fn stop(cells: &Cells, seat: &mut Seat, run: &mut ThreadRun) -> Attempt
+/// Attempts to stop the thread. Here and below, an operation that is asked for with a number is made with that number, or not at all.
+pub fn stop(cells: &Cells, seat: &mut Seat, run: &mut ThreadRun, at: Option<u32>) -> Attempt
     requires carrying { IsCarrying cells.now seat.old run.old }
     requires room { run.old.has_entry ≡ true }
     requires begun { has_begun run.old.flow.kept.thread.phase ≡ true }
     requires open { has_ended run.old.flow.kept.thread.phase ≡ false }
     ensures carrying { IsCarrying cells.now seat.new run.new }
-    ensures came { AttemptIs seat.old seat.new op.Stop object.Halt result }
+    ensures came { AttemptIs at seat.old seat.new op.Stop object.Halt result }
     ensures entries { length run.new.entries ≤ length run.old.entries + 1 }
 {
-    match cells.attempt(seat, ObjId::Halt, Op::Stop) {
+    match cells.attempt_at(seat, ObjId::Halt, Op::Stop, at) {
         Attempt::Done { answer, number } => {
             run.stop(number);
             Attempt::Done { answer, number }
@@ -37,16 +37,16 @@ pub fn stop(cells: &Cells, seat: &mut Seat, run: &mut ThreadRun) -> Attempt
 }
 
 /// Attempts to close the slot of a thread that hasn't begun.
-pub fn close_slot(cells: &Cells, seat: &mut Seat, run: &mut ThreadRun) -> Attempt
+pub fn close_slot(cells: &Cells, seat: &mut Seat, run: &mut ThreadRun, at: Option<u32>) -> Attempt
     requires carrying { IsCarrying cells.now seat.old run.old }
     requires room { run.old.has_entry ≡ true }
     requires early { has_begun run.old.flow.kept.thread.phase ≡ false }
     requires open { has_ended run.old.flow.kept.thread.phase ≡ false }
     ensures carrying { IsCarrying cells.now seat.new run.new }
-    ensures came { AttemptIs seat.old seat.new op.Close (object.Slot (view_of seat.old).from) result }
+    ensures came { AttemptIs at seat.old seat.new op.Close (object.Slot (view_of seat.old).from) result }
     ensures entries { length run.new.entries ≤ length run.old.entries + 1 }
 {
-    match cells.attempt(seat, ObjId::Slot(seat.thread()), Op::Close) {
+    match cells.attempt_at(seat, ObjId::Slot(seat.thread()), Op::Close, at) {
         Attempt::Done { answer, number } => {
             run.close_slot(number);
             Attempt::Done { answer, number }
@@ -56,7 +56,13 @@ pub fn close_slot(cells: &Cells, seat: &mut Seat, run: &mut ThreadRun) -> Attemp
 }
 
 /// Attempts to take a stripe from the thread.
-pub fn give_up(cells: &Cells, seat: &mut Seat, run: &mut ThreadRun, place: LockStripe) -> Attempt
+pub fn give_up(
+    cells: &Cells,
+    seat: &mut Seat,
+    run: &mut ThreadRun,
+    place: LockStripe,
+    at: Option<u32>,
+) -> Attempt
     requires runnable { IsRunnable cells.now.code }
     requires carrying { IsCarrying cells.now seat.old run.old }
     requires settled { IsSettled run.old }
@@ -67,11 +73,11 @@ pub fn give_up(cells: &Cells, seat: &mut Seat, run: &mut ThreadRun, place: LockS
     requires entries { run.old.flow.kept.thread.entries < most_entries }
     requires revokes { run.old.flow.kept.thread.revokes < most_revokes }
     ensures carrying { IsCarrying cells.now seat.new run.new }
-    ensures came { AttemptIs seat.old seat.new op.Revoke (object.Weak place.lock place.stripe) result }
+    ensures came { AttemptIs at seat.old seat.new op.Revoke (object.Weak place.lock place.stripe) result }
     ensures entries { length run.new.entries ≤ length run.old.entries + 1 }
 {
     let LockStripe { lock, stripe } = place;
-    match cells.attempt(seat, ObjId::Weak { lock, stripe }, Op::Revoke) {
+    match cells.attempt_at(seat, ObjId::Weak { lock, stripe }, Op::Revoke, at) {
         Attempt::Done { answer, number } => {
             run.give_up(lock, stripe, number);
             Attempt::Done { answer, number }
@@ -81,7 +87,14 @@ pub fn give_up(cells: &Cells, seat: &mut Seat, run: &mut ThreadRun, place: LockS
 }
 
 /// Attempts the thread's own next operation.
-pub fn operate(cells: &Cells, seat: &mut Seat, run: &mut ThreadRun, op: Op, obj: ObjId) -> Attempt
+pub fn operate(
+    cells: &Cells,
+    seat: &mut Seat,
+    run: &mut ThreadRun,
+    op: Op,
+    obj: ObjId,
+    at: Option<u32>,
+) -> Attempt
     requires runnable { IsRunnable cells.now.code }
     requires carrying { IsCarrying cells.now seat.old run.old }
     requires settled { IsSettled run.old }
@@ -89,10 +102,10 @@ pub fn operate(cells: &Cells, seat: &mut Seat, run: &mut ThreadRun, op: Op, obj:
     requires next { next_of run.old ≡ action.Operate op obj }
     requires object { has_object cells.now.code cells.now.setup obj ≡ true }
     ensures carrying { IsCarrying cells.now seat.new run.new }
-    ensures came { AttemptIs seat.old seat.new op obj result }
+    ensures came { AttemptIs at seat.old seat.new op obj result }
     ensures entries { length run.new.entries ≤ length run.old.entries + 1 }
 {
-    match cells.attempt(seat, obj, op) {
+    match cells.attempt_at(seat, obj, op, at) {
         Attempt::Done { answer, number } => {
             run.take_answer(answer, number);
             Attempt::Done { answer, number }

@@ -39,7 +39,7 @@ fn finish(cells: &Cells, seat: &mut Seat, run: &mut ThreadRun, end: End) -> Play
 {
     match end {
         End::Stop => {
-            let came = stop(cells, seat, run);
+            let came = stop(cells, seat, run, None);
             Played::Tried {
                 op: Op::Stop,
                 obj: ObjId::Halt,
@@ -48,7 +48,7 @@ fn finish(cells: &Cells, seat: &mut Seat, run: &mut ThreadRun, end: End) -> Play
         }
         End::Close => {
             let obj = ObjId::Slot(seat.thread());
-            let came = close_slot(cells, seat, run);
+            let came = close_slot(cells, seat, run, None);
             Played::Tried {
                 op: Op::Close,
                 obj,
@@ -81,7 +81,7 @@ pub(crate) fn step(
         Some(end) => finish(cells, seat, run, end),
         None => match revoke_due(cells, seat, run, since, budget, turn) {
             Some(place) => {
-                let came = give_up(cells, seat, run, place);
+                let came = give_up(cells, seat, run, place, None);
                 let LockStripe { lock, stripe } = place;
                 Played::Tried {
                     op: Op::Revoke,
@@ -94,7 +94,8 @@ pub(crate) fn step(
     }
 }
 
-/// A turn of a thread that hasn't ended. None where the machine was seen to be out of memory, or ran out of it, which all others are told.
+/// A turn of a thread that hasn't ended. None where the machine was seen to be out of memory, or ran out of it, which the memory word
+/// then tells all others.
 pub(crate) fn advance(
     cells: &Cells,
     seat: &mut Seat,

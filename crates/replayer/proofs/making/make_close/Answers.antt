@@ -34,6 +34,6 @@ returns-in-Open c =
     let set = looked_set _ _ _ _ c.requires.set mid op.Close (object.Slot x.entry.thread) x.number c.look_at.result c.look_at.ensures.sees c.look_at.ensures.seat in
     let slot : x.entry.obj ≡ object.Slot (view_of mid).from = c.is_at.ensures.0 c.if-not-is_at.false ∙ ap object.Slot set.own in
     let sees = subst (λ t. Sees old mid op.Close (object.Slot t) x.number c.look_at.result) set.own c.look_at.ensures.sees in
-    tried _ _ _ _ c.requires.set mid c.close_slot.new.seat c.close_slot.new.run op.Close (object.Slot (view_of mid).from) x.number c.look_at.result c.close_slot.result c.came_to.result sees
+    tried _ _ _ _ c.requires.set mid c.close_slot.new.seat c.close_slot.new.run op.Close (object.Slot (view_of mid).from) c.look_at.result c.close_slot.result c.came_to.result sees
     (closes _ _ _ _ set c.requires.count c.requires.label c.requires.name slot (sym c.has_begun.ensures ∙ c.if-has_begun.false))
     c.close_slot.ensures.carrying c.close_slot.ensures.came c.came_to.ensures

@@ -51,6 +51,6 @@ returns-in-Open c =
     let obj = c.in-Operate.obj in
     let has : has_object c.args.cells.now.code c.args.cells.now.setup obj ≡ true = has_read c.args.cells.now c.code.result.now c.setup.result.now obj true c.has_object.result c.code.ensures c.setup.ensures c.has_object.ensures c.if-not-has_object.false in
     let set = looked_set _ _ _ _ c.requires.set mid o obj x.number c.look_at.result c.look_at.ensures.sees c.look_at.ensures.seat in
-    tried _ _ _ _ c.requires.set mid c.operate.new.seat c.operate.new.run o obj x.number c.look_at.result c.operate.result c.came_to.result c.look_at.ensures.sees
+    tried _ _ _ _ c.requires.set mid c.operate.new.seat c.operate.new.run o obj c.look_at.result c.operate.result c.came_to.result c.look_at.ensures.sees
     (operates _ _ _ _ set c.requires.count c.requires.runnable o obj (sym c.next_action.ensures ∙ c.in-Operate.is) has c.requires.label (c.has_name.ensures.0 c.if-not-has_name.false) (sym (c.is_at.ensures.0 c.if-not-is_at.false)))
     c.operate.ensures.carrying c.operate.ensures.came c.came_to.ensures

@@ -31,6 +31,6 @@ returns-in-Open c =
     let obj = object.Weak c.args.lock c.args.stripe in
     let has : has_object c.args.cells.now.code c.args.cells.now.setup obj ≡ true = has_read c.args.cells.now c.code.result.now c.setup.result.now obj true c.has_object.result c.code.ensures c.setup.ensures c.has_object.ensures c.if-not-has_object.false in
     let set = looked_set _ _ _ _ c.requires.set mid op.Revoke obj x.number c.look_at.result c.look_at.ensures.sees c.look_at.ensures.seat in
-    tried _ _ _ _ c.requires.set mid c.give_up.new.seat c.give_up.new.run op.Revoke obj x.number c.look_at.result c.give_up.result c.came_to.result c.look_at.ensures.sees
+    tried _ _ _ _ c.requires.set mid c.give_up.new.seat c.give_up.new.run op.Revoke obj c.look_at.result c.give_up.result c.came_to.result c.look_at.ensures.sees
     (revokes _ _ _ _ set c.requires.count c.args.lock c.args.stripe c.requires.label c.requires.name c.requires.object has (sym c.may_revoke.ensures ∙ c.if-not-may_revoke.false))
     c.give_up.ensures.carrying c.give_up.ensures.came c.came_to.ensures

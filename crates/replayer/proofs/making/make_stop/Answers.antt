@@ -25,6 +25,6 @@ returns-in-Open c =
     let mid = c.look_at.new.seat in
     let x = c.args.next in
     let set = looked_set _ _ _ _ c.requires.set mid op.Stop object.Halt x.number c.look_at.result c.look_at.ensures.sees c.look_at.ensures.seat in
-    tried _ _ _ _ c.requires.set mid c.stop.new.seat c.stop.new.run op.Stop object.Halt x.number c.look_at.result c.stop.result c.came_to.result c.look_at.ensures.sees
+    tried _ _ _ _ c.requires.set mid c.stop.new.seat c.stop.new.run op.Stop object.Halt c.look_at.result c.stop.result c.came_to.result c.look_at.ensures.sees
     (stops _ _ _ _ set c.requires.count c.requires.label c.requires.name (c.is_at.ensures.0 c.if-not-is_at.false) (sym c.has_begun.ensures ∙ c.if-not-has_begun.false))
     c.stop.ensures.carrying c.stop.ensures.came c.came_to.ensures

@@ -4,7 +4,9 @@ use Rattle.shared_cells.specs.Seats.{view_of}
 use Rattle.shared_cells.specs.Views.{looked, departing}
 use Rattle.shared_cells.specs.Words.{memory_place, departure_place}
 use Rattle.replayer.specs.declared.step.Step.TheVariants as step
+use Rattle.weak_turns.proofs.Searching.{set_or_not}
 use Rattle.replayer.proofs.Follows.{departs_tried, looked_twice}
+use Rattle.replayer.proofs.Looking.{saw_no_memory}
 use Rattle.replayer.proofs.trying.try_next.Goals as goal
 use Rattle.replayer.proofs.trying.try_next.Goals.{in-Departs, in_default-matches}
 
@@ -24,3 +26,11 @@ returns-then-matches-clause-tried c =
     let v2 = departing (looked (view_of old) (memory_place cells.code cells.setup) tells.value) (departure_place cells.code cells.setup) bound in
     let met : min (view_of old).met bound ≤ bound = omega arith in
     departs_tried cells old s2 s3 s4 c.step.new.run w bound c.least.result c.in-Ok.step c.if-bound-next.false departs v2 both.0 refl refl met both.1 c.in-Ok.ensures.comes c.least.ensures.seat c.least.ensures.view c.least.ensures.marks
+
+pub returns-then-lacks_memory-clause-out : goal.returns-then-lacks_memory-clause-out
+returns-then-lacks_memory-clause-out c = λ e.
+    let tells = c.lacks_memory.ensures.tells in
+    saw_no_memory c.args.cells.now c.args.seat.now c.lacks_memory.new.seat tells.value tells.view (set_or_not tells.value c.lacks_memory.result tells.is c.if-lacks_memory.true)
+
+pub returns-in_default-clause-out : goal.returns-in_default-clause-out
+returns-in_default-clause-out c = λ e. saw_no_memory c.args.cells.now c.step.new.seat c.no_memory.new.seat 1 c.no_memory.ensures.view (λ z. cc)

@@ -6,8 +6,8 @@ use Rattle.shared_cells.specs.declared.attempt.Attempt.TheVariants as attempt
 use Rattle.weak_turns.proofs.Moving.{close_due, shuts, done}
 use Rattle.weak_turns.proofs.operations.close_slot.Goals as goal
 
-pub attempt-requires-clause-due : goal.attempt-requires-clause-due
-attempt-requires-clause-due c =
+pub attempt_at-requires-clause-due : goal.attempt_at-requires-clause-due
+attempt_at-requires-clause-due c =
     let h = c.requires.carrying in
     close_due (view_of c.args.seat.now) c.args.seat.now.marks c.args.run.now h.carries c.thread.result (c.thread.ensures ∙ sym h.seat_of.thread_is) c.requires.early c.requires.open
 
@@ -17,9 +17,9 @@ returns-in-Done-clause-carrying c =
     let q = c.close_slot.new.self in
     let h = c.requires.carrying in
     let is : c.thread.result ≡ (view_of old).from = c.thread.ensures ∙ sym h.seat_of.thread_is in
-    let came = subst (λ k. AttemptIs old c.attempt.new.seat op.Close (object.Slot k) (attempt.Done c.in-Done.answer c.in-Done.number)) is c.in-Done.ensures.is in
+    let came = subst (λ k. AttemptIs c.args.at old c.attempt_at.new.seat op.Close (object.Slot k) (attempt.Done c.in-Done.answer c.in-Done.number)) is c.in-Done.ensures.is in
     record {
       seat_of = c.in-Done.ensures.seat;
-      carries = done old c.attempt.new.seat q op.Close (object.Slot (view_of old).from) c.in-Done.answer c.in-Done.number came
+      carries = done c.args.at old c.attempt_at.new.seat q op.Close (object.Slot (view_of old).from) c.in-Done.answer c.in-Done.number came
           (shuts (view_of old) old.marks c.args.run.now h.carries q c.close_slot.ensures.same c.requires.open c.close_slot.ensures.reads c.in-Done.answer c.in-Done.number c.close_slot.ensures.told);
     }

@@ -6,8 +6,8 @@ use Rattle.shared_cells.specs.Seats.{view_of}
 use Rattle.weak_turns.proofs.Moving.{revoke_due, gives_up, done}
 use Rattle.weak_turns.proofs.operations.give_up.Goals as goal
 
-pub attempt-requires-clause-due : goal.attempt-requires-clause-due
-attempt-requires-clause-due c = revoke_due (view_of c.args.seat.now) c.args.seat.now.marks c.args.run.now c.requires.carrying.carries c.args.place.lock c.args.place.stripe c.requires.settled c.requires.open c.requires.held c.requires.entries c.requires.revokes
+pub attempt_at-requires-clause-due : goal.attempt_at-requires-clause-due
+attempt_at-requires-clause-due c = revoke_due (view_of c.args.seat.now) c.args.seat.now.marks c.args.run.now c.requires.carrying.carries c.args.place.lock c.args.place.stripe c.requires.settled c.requires.open c.requires.held c.requires.entries c.requires.revokes
 
 pub returns-in-Done-clause-carrying : goal.returns-in-Done-clause-carrying
 returns-in-Done-clause-carrying c =
@@ -17,6 +17,6 @@ returns-in-Done-clause-carrying c =
     let h = c.requires.carrying in
     record {
       seat_of = c.in-Done.ensures.seat;
-      carries = done old _ q op.Revoke (object.Weak c.args.place.lock c.args.place.stripe) c.in-Done.answer c.in-Done.number c.in-Done.ensures.is
+      carries = done c.args.at old _ q op.Revoke (object.Weak c.args.place.lock c.args.place.stripe) c.in-Done.answer c.in-Done.number c.in-Done.ensures.is
           (gives_up (view_of old) old.marks r h.carries q c.give_up.ensures.same c.requires.open c.give_up.ensures.reads c.args.place.lock c.args.place.stripe c.in-Done.answer c.in-Done.number (subst IsRunnable (sym h.seat_of.code_is) c.requires.runnable) c.requires.settled c.requires.held c.give_up.ensures.told);
     }

@@ -7,8 +7,8 @@ use Rattle.thread_step.specs.Steps.{told_of, next_of, after, reads_after}
 use Rattle.weak_turns.proofs.Moving.{own_due, is_due, operates, done}
 use Rattle.weak_turns.proofs.operations.operate.Goals as goal
 
-pub attempt-requires-clause-due : goal.attempt-requires-clause-due
-attempt-requires-clause-due c =
+pub attempt_at-requires-clause-due : goal.attempt_at-requires-clause-due
+attempt_at-requires-clause-due c =
     let v = view_of c.args.seat.now in
     let n = c.args.seat.now.marks in
     let r = c.args.run.now in
@@ -32,6 +32,6 @@ returns-in-Done-clause-carrying c =
     let own = own_due v old.marks r h.carries c.args.op c.args.obj (subst IsRunnable (sym h.seat_of.code_is) c.requires.runnable) c.requires.settled c.requires.next in
     record {
       seat_of = c.in-Done.ensures.seat;
-      carries = done old _ q c.args.op c.args.obj answer number c.in-Done.ensures.is
+      carries = done c.args.at old _ q c.args.op c.args.obj answer number c.in-Done.ensures.is
           (operates v old.marks r h.carries q c.take_answer.ensures.same c.requires.settled c.args.op c.args.obj answer number own.0 c.requires.next left kept);
     }

@@ -4,8 +4,8 @@ use Rattle.shared_cells.specs.Seats.{view_of}
 use Rattle.weak_turns.proofs.Moving.{stop_due, stops, done}
 use Rattle.weak_turns.proofs.operations.stop.Goals as goal
 
-pub attempt-requires-clause-due : goal.attempt-requires-clause-due
-attempt-requires-clause-due c = stop_due (view_of c.args.seat.now) c.args.seat.now.marks c.args.run.now c.requires.carrying.carries c.requires.begun c.requires.open
+pub attempt_at-requires-clause-due : goal.attempt_at-requires-clause-due
+attempt_at-requires-clause-due c = stop_due (view_of c.args.seat.now) c.args.seat.now.marks c.args.run.now c.requires.carrying.carries c.requires.begun c.requires.open
 
 pub returns-in-Done-clause-carrying : goal.returns-in-Done-clause-carrying
 returns-in-Done-clause-carrying c =
@@ -13,6 +13,6 @@ returns-in-Done-clause-carrying c =
     let q = c.stop.new.self in
     record {
       seat_of = c.in-Done.ensures.seat;
-      carries = done old _ q op.Stop object.Halt c.in-Done.answer c.in-Done.number c.in-Done.ensures.is
+      carries = done c.args.at old _ q op.Stop object.Halt c.in-Done.answer c.in-Done.number c.in-Done.ensures.is
           (stops (view_of old) old.marks c.args.run.now c.requires.carrying.carries q c.stop.ensures.same c.requires.open c.stop.ensures.reads c.in-Done.answer c.in-Done.number c.stop.ensures.told);
     }

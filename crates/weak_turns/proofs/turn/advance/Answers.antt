@@ -6,7 +6,7 @@ use Rattle.weak_turns.proofs.Showing.{rested_phase}
 use Rattle.weak_turns.proofs.turn.advance.Goals as goal
 
 pub returns-then-lacks_memory-clause-advances : goal.returns-then-lacks_memory-clause-advances
-returns-then-lacks_memory-clause-advances c = advances_out c.args.cells.now c.args.seat.now c.lacks_memory.new.seat c.lacks_memory.result c.lacks_memory.ensures.tells c.args.since.now c.args.budget c.args.turn
+returns-then-lacks_memory-clause-advances c = advances_out c.args.cells.now c.args.seat.now c.lacks_memory.new.seat c.lacks_memory.result c.lacks_memory.ensures.tells c.args.since.now c.args.budget c.args.turn c.if-lacks_memory.true
 
 pub step-requires-clause-open : goal.step-requires-clause-open
 step-requires-clause-open c =
@@ -17,4 +17,4 @@ pub returns-in-Ok-clause-advances : goal.returns-in-Ok-clause-advances
 returns-in-Ok-clause-advances c = advances_some c.args.cells.now c.args.seat.now c.lacks_memory.new.seat c.lacks_memory.result c.lacks_memory.ensures.tells c.step.new.seat c.args.since.now c.step.new.since c.args.budget c.args.turn c.step.result c.if-lacks_memory.false c.step.ensures.steps
 
 pub returns-in-Err-clause-advances : goal.returns-in-Err-clause-advances
-returns-in-Err-clause-advances c = advances_none c.args.cells.now c.args.seat.now c.lacks_memory.new.seat c.lacks_memory.result c.lacks_memory.ensures.tells c.no_memory.new.seat c.args.since.now c.args.budget c.args.turn c.no_memory.ensures.same
+returns-in-Err-clause-advances c = advances_none c.args.cells.now c.args.seat.now c.lacks_memory.new.seat c.lacks_memory.result c.lacks_memory.ensures.tells c.no_memory.new.seat c.args.since.now c.args.budget c.args.turn c.no_memory.ensures.view c.no_memory.ensures.marks

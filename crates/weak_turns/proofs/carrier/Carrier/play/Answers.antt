@@ -1,10 +1,11 @@
-use Rattle.std.proofs.Common.{◌≡◌, ◌||◌, Some, false, rules, sym, ap, subst, ◌∙◌}
+use Rattle.std.proofs.Common.{◌≡◌, ◌||◌, Some, None, true, false, rules, refl, sym, ap, subst, ◌∙◌}
 use Rattle.std.specs.Vec.{with_items}
 use Rattle.std.proofs.lemmas.List.{with_items_is}
 use Rattle.weak_turns.specs.Carrying.{Carrying, is_over, run_has_ended}
 use Rattle.weak_turns.specs.Finding.{Advances}
 use Rattle.weak_turns.specs.Turns.{PlayedIs}
-use Rattle.weak_turns.proofs.Playing.{played_so}
+use Rattle.weak_turns.specs.declared.played.Played.TheVariants as played
+use Rattle.weak_turns.proofs.Playing.{played_so, rested}
 use Rattle.weak_turns.proofs.carrier.Carrier.play.Goals as goal
 
 pub returns-in-Some-clause-played : goal.returns-in-Some-clause-played
@@ -22,3 +23,17 @@ returns-in-Some-clause-played c =
     subst (λ xs. Advances inside.cells.now inside.seat advanced.new.seat xs later inside.budget turn (Some c.in-Some.played)) c.deref_mut.ensures.value
     (subst (λ xs. Advances inside.cells.now inside.seat advanced.new.seat c.deref_mut.result.now xs inside.budget turn (Some c.in-Some.played)) (sym same) c.in-Some.ensures.advances) in
     subst (λ z. PlayedIs z new c.in-Some.played) c.self.view_is (played_so old new opened c.if-self.false c.in-Some.played came)
+
+pub returns-in-None-clause-played : goal.returns-in-None-clause-played
+returns-in-None-clause-played c =
+    let inside = c.self.inside in
+    let advanced = c.advance-advanced in
+    let turn = c.saturating_add-self-inside.result in
+    let later = (with_items inside.since advanced.new.since).items in
+    let same : later ≡ advanced.new.since = with_items_is inside.since advanced.new.since (advanced.auto.since ∙ c.deref_mut.ensures.len) in
+    let old : Carrying = record { cells = inside.cells.now; seat = inside.seat; run = inside.run; budget = inside.budget; turns = inside.turns; since = inside.since.items; is_out = inside.is_out } in
+    let new : Carrying = record { cells = inside.cells.now; seat = advanced.new.seat; run = advanced.new.run; budget = inside.budget; turns = turn; since = later; is_out = true } in
+    let came : Advances inside.cells.now inside.seat advanced.new.seat inside.since.items later inside.budget turn None =
+    subst (λ xs. Advances inside.cells.now inside.seat advanced.new.seat xs later inside.budget turn None) c.deref_mut.ensures.value
+    (subst (λ xs. Advances inside.cells.now inside.seat advanced.new.seat c.deref_mut.result.now xs inside.budget turn None) (sym same) c.in-None.ensures.advances) in
+    subst (λ z. PlayedIs z new played.Nothing) c.self.view_is (rested old new refl came)

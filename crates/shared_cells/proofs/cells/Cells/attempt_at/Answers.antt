@@ -8,11 +8,12 @@ use Rattle.core_run.specs.Words.{cells_of, place_of}
 use Rattle.shared_cells.specs.Rule.{Holds}
 use Rattle.shared_cells.specs.Views.{looked, missed}
 use Rattle.shared_cells.specs.Plays.{Looks, Makes}
+use Rattle.shared_cells.specs.Seats.{is_asked}
 use Rattle.shared_cells.proofs.Keeping.{length-first_words}
 use Rattle.shared_cells.proofs.Calls.{called, place_is, object_is}
 use Rattle.shared_cells.proofs.Allowed.{look_allowed, object_place}
 use Rattle.shared_cells.proofs.Attempts.{looking, exchanges}
-use Rattle.shared_cells.proofs.cells.Cells.attempt.Goals as goal
+use Rattle.shared_cells.proofs.cells.Cells.attempt_at.Goals as goal
 
 pub load-seen-requires : goal.load-seen-requires
 load-seen-requires c =
@@ -68,6 +69,24 @@ advance-requires-clause-sound c =
     let look = looking _ shared.key shared.table_id _ _ _ _ seat.seat.table_id me seat.thread c.self.view_is c.self.invariant.0 c.requires.seat seat.marks c.args.op c.args.obj c.requires.object c.requires.due p c.place_of-place.ensures shared.table_id.slots w c.load-seen.new.seat.me looks in
     look.ask.sound
 
+pub returns-then-not-is_asked-clause-is : goal.returns-then-not-is_asked-clause-is
+returns-then-not-is_asked-clause-is c =
+    let shared = c.self.inside.table.shared in
+    let seat = c.args.seat.now in
+    let me = seat.seat.me in
+    let v = me.0 in
+    let p = c.place_of-place.result in
+    let w = c.load-seen.result in
+    let looks = c.load-seen.ensures.2 in
+    let look = looking _ shared.key shared.table_id _ _ _ _ seat.seat.table_id me seat.thread c.self.view_is c.self.invariant.0 c.requires.seat seat.marks c.args.op c.args.obj c.requires.object c.requires.due p c.place_of-place.ensures shared.table_id.slots w c.load-seen.new.seat.me looks in
+    inl record {
+      refused = inr (ap (is_asked c.args.at) (sym c.number_of-number.ensures) ∙ sym c.is_asked.ensures ∙ c.if-not-is_asked.true);
+      found = look.found;
+      later = look.later;
+      view = looks.view ∙ ap (λ z. looked v z w) (sym look.place_is);
+      marks = refl;
+    }
+
 pub returns-in_default-clause-is : goal.returns-in_default-clause-is
 returns-in_default-clause-is c =
     let shared = c.self.inside.table.shared in
@@ -79,7 +98,7 @@ returns-in_default-clause-is c =
     let looks = c.load-seen.ensures.2 in
     let look = looking _ shared.key shared.table_id _ _ _ _ seat.seat.table_id me seat.thread c.self.view_is c.self.invariant.0 c.requires.seat seat.marks c.args.op c.args.obj c.requires.object c.requires.due p c.place_of-place.ensures shared.table_id.slots w c.load-seen.new.seat.me looks in
     inl record {
-      refused = ap (λ t. advanced c.args.op t w) c.requires.seat.thread_is ∙ c.in_default.ensures.table;
+      refused = inl (ap (λ t. advanced c.args.op t w) c.requires.seat.thread_is ∙ c.in_default.ensures.table);
       found = look.found;
       later = look.later;
       view = looks.view ∙ ap (λ z. looked v z w) (sym look.place_is);
@@ -148,7 +167,8 @@ returns-clause-is c =
       seen = w;
       next = c.in-Some.next;
       moves = moves;
-      number_is = c.number_of.ensures;
+      number_is = c.number_of-number.ensures;
+      asked = sym c.is_asked.ensures ∙ c.if-not-is_asked.false;
       later = look.later;
       makes = subst (λ z. Makes (looked v z w) z seat.marks c.args.op c.args.obj w answer c.compare_exchange_with-found.new.seat.me.0) (sym look.place_is)
           (subst (λ z. Makes z p seat.marks c.args.op c.args.obj w answer c.compare_exchange_with-found.new.seat.me.0) looks.view made);
