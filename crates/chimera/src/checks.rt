@@ -1,8 +1,8 @@
 // Calls of the jobs, and what is compared after them.
 use crew::Crew;
-use samples::outside::{Outside, input_of, owned, sink_of};
 use jobs::chimera;
 use rr_base::MemShelf;
+use samples::outside::{Outside, input_of, owned, sink_of};
 use std::alloc::Global;
 use std::process::Abort;
 use std::sync::Wait;

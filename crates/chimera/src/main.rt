@@ -1,5 +1,8 @@
-//! The program: it records a run of a C source on threads with its log, runs a source by a log, and lists the accesses of a source that may
-//! race, its weak locks, and which functions were at work at once; and it makes a large source. It stands on `jobs`, which promises what its words and files come to.
+//! The program: it records a run of a C source on threads with its log, runs a source by a log, and lists the accesses
+//! of a source that may race, its weak locks, and which functions were at work at once; and it makes a large source.
+//!
+//! Its contract: `main` alone; tests on threads and of what fails outside.
+//! It knows nothing of jobs.
 #![tactic(auto)]
 
 ghost use Rattle.std.specs.Prelude.{◌≡◌, drop, map, string_bytes};

@@ -1,9 +1,9 @@
 use crate::checks::check_on;
+use rr_base::{Bytes, List, MemShelf};
 use samples::bank::{BANK, BANK_LOG};
 use samples::outside::{Outside, SOUND, crew_of};
 use samples::shelves::push_file;
 use samples::sources::HELD_BY_CALLER;
-use rr_base::{Bytes, List, MemShelf};
 use std::alloc::{AllocError, Global};
 use std::process::Abort;
 use std::sync::Wait;

@@ -1,12 +1,12 @@
 use crate::checks::check_on;
 use crew::ScopeCrew;
+use rr_base::MemShelf;
 use samples::bank::{BANK, CHANGES};
 use samples::outside::SOUND;
 use samples::runs::{MORE_RUNS, RUNS};
 use samples::shelves::{REPLAY, bank_files, files_of, with_source};
 use samples::sources::{NONE_LEFT, PASSES, WAITS};
 use samples::weak_runs::WEAK_RUNS;
-use rr_base::MemShelf;
 use std::alloc::Global;
 use std::process::Abort;
 use std::sync::Wait;

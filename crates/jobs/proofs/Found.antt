@@ -34,6 +34,10 @@ compile_is_pure source p stop.InputFailed h = absurd h
 compile_is_pure source p stop.CrewFailed h = absurd h
 compile_is_pure source p stop.OutOfMemory h = tt
 
+pub compiles_purely : (source : List ℕ) (p : Profile) (r : Result Analysed Stop) → Compiles source p r → IfErr r IsPure
+compiles_purely source p (Ok w) h = tt
+compiles_purely source p (Err s) h = compile_is_pure source p s h
+
 pub same_compile : (a b : List ℕ) (p q : Profile) (r : Result Analysed Stop) → a ≡ b → p ≡ q → Compiles a p r → Compiles b q r
 same_compile a b p q r e f h = subst (λ x. Compiles x q r) e (subst (λ x. Compiles a x r) f h)
 
@@ -49,7 +53,7 @@ races_listed source w r h is = compiled_gives source profile.All w ListsRaces _ 
 pub locks_listed : (source : List ℕ) (p : Profile) (w : Analysed) (r : Result Outcome Stop) → Compiles source p (Ok w) → MatchResult r (λ o. o ≡ answers (answer.Done (weak_text_of w.plain w.weak.locks w.grains.rows))) (λ end. end ≡ stop.OutOfMemory) → Gives (Comes (IsTree source) (ListsWeakLocks p)) r
 locks_listed source p w r h is = compiled_gives source p w (ListsWeakLocks p) _ r h (λ os o tree found told. record { found = w; is = found; told = told }) is
 
--- an outcome of which this is known, or memory was wanting
+-- an outcome of which this is known, or memory ran out
 pub or_memory : (x : Outcome → Type 0) (f : Result Outcome AllocError) (r : Result Outcome Stop) → IfOk f x → MatchResult r (λ o. f ≡ Ok o) (λ end. end ≡ stop.OutOfMemory) → MatchResult r x (λ end. end ≡ stop.OutOfMemory)
 or_memory x f (Ok o) h is = subst (λ g. IfOk g x) is h
 or_memory x f (Err s) h is = is

@@ -91,16 +91,16 @@ source_is_put count name text (Some files) new is e = subst (λ x. new ≡ Some 
 
 -- what comes of a source that was put
 pub once_put : (a b : Work) (count : ℕ) (name other : List ℕ) (old between new : Option Files) (r : Result Outcome Stop) → other ≡ name
-    → ((first : Option Files) → ArePut (source_put count other ∷ []) first between → ComesTo (IsMaking a b count other) (IsPutInMaking count other) first new r)
-    → ArePut (source_put count name ∷ []) old between → ComesTo (IsMaking a b count name) (IsPutInMaking count name) old new r
-once_put a b count name other old between new r e h put = subst (λ x. (first : Option Files) → ArePut (source_put count x ∷ []) first between → ComesTo (IsMaking a b count x) (IsPutInMaking count x) first new r) e h old put
+    → ((first : Option Files) → ArePut (source_put count other ∷ []) first between → ComesTo (IsMaking a b count other) (IsPutInMaking a count other) first new r)
+    → ArePut (source_put count name ∷ []) old between → ComesTo (IsMaking a b count name) (IsPutInMaking a count name) old new r
+once_put a b count name other old between new r e h put = subst (λ x. (first : Option Files) → ArePut (source_put count x ∷ []) first between → ComesTo (IsMaking a b count x) (IsPutInMaking a count x) first new r) e h old put
 
 module _ (a b : Work) (count : ℕ) (name : List ℕ) (old : Option Files) where
   abbrev source : Put
   source = source_put count name
 
   abbrev ComesSo : Option Files → Result Outcome Stop → Type 0
-  ComesSo new r = ComesTo (IsMaking a b count name) (IsPutInMaking count name) old new r
+  ComesSo new r = ComesTo (IsMaking a b count name) (IsPutInMaking a count name) old new r
 
   pub nothing_put : (new : Option Files) (s : Stop) → s ≡ stop.OutOfMemory → new ≡ old → ComesSo new (Err s)
   nothing_put new s is e = subst (λ x. ComesSo new (Err x)) (sym is) (source ∷ [], Source refl, record { made = []; rest = source ∷ []; split = refl; files = no_puts old new e })
@@ -136,11 +136,11 @@ module _ (a work b : Work) (count : ℕ) (name : List ℕ) (old between new : Op
   logs_walk labels end = runs.logs (setup_of (recording_of name) []) labels end (setup_is_within name)
 
   abbrev recording_is : IsRecording a work (recording_of name) profile.All runs.os [] recorded
-  recording_is = recording a work (recording_of name) profile.All runs.os w [] recorded runs.is logs_walk logged.is
+  recording_is = recording a work (recording_of name) profile.All runs.os w [] recorded tt (setup_is_within name) runs.is logs_walk logged.is
 
   replaying_is : (walk : Walk) → WalkIs w.weak log.setup log.entries no_reads walk → HasRun log.setup.slots (entries_taken log.entries walk) work b → Replays work b (made_log name recording_is.entries) None runs.os (outcome_of [] None walk)
   replaying_is walk is worked =
-      let entries : recording_is.entries ≡ logged.is.recorded.entries = recording_entries a work (recording_of name) profile.All runs.os w [] recorded runs.is logs_walk logged.is in
+      let entries : recording_is.entries ≡ logged.is.recorded.entries = recording_entries a work (recording_of name) profile.All runs.os w [] recorded tt (setup_is_within name) runs.is logs_walk logged.is in
       let same : log ≡ made_log name recording_is.entries = logged.log_is ∙ ap (made_log name) (sym entries) in
       record { found = w; is = runs.is; walk = walk; walks = subst (λ (l : LogView). WalkIs w.weak l.setup l.entries no_reads walk) same is; source = runs.walks (setup_of (recording_of name) []) recording_is.entries (setup_is_within name); crew = subst (λ (l : LogView). HasRun l.setup.slots (entries_taken l.entries walk) work b) same worked; told = refl }
 
@@ -153,8 +153,8 @@ module _ (a work b : Work) (count : ℕ) (name : List ℕ) (old between new : Op
         let rest = following h.before left in
         record { before = source_put count name ∷ h.before; put = put_both (source_put count name ∷ []) h.before old between new put h.put; has = record { rest = rest; comes = record { step = Ok runs.os; is = runs.tree; next = is_made rest h.has }; told = refl } }
 
-    with_source : (puts : List Put) → puts ≡ recorded.puts → IsPutInMaking count name (source_put count name ∷ puts)
-    with_source puts e = SourceAndLog a work runs.os recorded runs.tree recording_is (ap (λ (xs : List Put). source_put count name ∷ xs) e)
+    with_source : (puts : List Put) → puts ≡ recorded.puts → IsPutInMaking a count name (source_put count name ∷ puts)
+    with_source puts e = SourceAndLog work runs.os recorded runs.tree recording_is (ap (λ (xs : List Put). source_put count name ∷ xs) e)
 
     -- a recording puts something
     some_put : (puts : List Put) → puts ≡ recorded.puts → puts ≡ [] → ⊥
@@ -164,7 +164,7 @@ module _ (a work b : Work) (count : ℕ) (name : List ℕ) (old between new : Op
     cut_off puts e (NonePut none same) = absurd (some_put puts e none)
     cut_off puts e (OneFailed h) = OneFailed (failed_after (source_put count name ∷ []) puts old between new put h)
 
-    pub making : (r : Result Outcome Stop) (same : Type 0) (shelf_old shelf_new crew_old crew_new : ℕ) → ComesTo (IsReplayed work b count bytes w log recorded) (λ puts. puts ≡ recorded.puts) between new r → MatchResult r (λ _. same) (λ s. CrewShelfStops s shelf_old shelf_new crew_old crew_new) → ComesTo (IsMaking a b count name) (IsPutInMaking count name) old new r
+    pub making : (r : Result Outcome Stop) (same : Type 0) (shelf_old shelf_new crew_old crew_new : ℕ) → ComesTo (IsReplayed work b count bytes w log recorded) (λ puts. puts ≡ recorded.puts) between new r → MatchResult r (λ _. same) (λ s. CrewShelfStops s shelf_old shelf_new crew_old crew_new) → ComesTo (IsMaking a b count name) (IsPutInMaking a count name) old new r
     making (Ok left) same shelf_old shelf_new crew_old crew_new h f = is_making left h
     making (Err (stop.Refused refusal)) same shelf_old shelf_new crew_old crew_new h f = is_making (answers refusal) h
     making (Err stop.ShelfFailed) same shelf_old shelf_new crew_old crew_new h f = (source_put count name ∷ h.0, with_source h.0 h.1, cut_off h.0 h.1 h.2)

@@ -1,12 +1,11 @@
 -- Files and words have one outcome.
-use Rattle.std.proofs.Common.{◌≡◌, ℕ, List, [], ◌∷◌, ◌++◌, Option, Some, None, Result, Ok, Err, refl, sym, ◌∙◌, ap, subst, arith}
-use Rattle.command_line.specs.Jobs.{RecordAsked}
+use Rattle.std.proofs.Common.{◌≡◌, ℕ, Bool, true, false, List, [], ◌++◌, Option, Some, None, Result, Ok, Err, refl, sym, ◌∙◌, ap, subst, arith}
+use Rattle.command_line.specs.Jobs.{Asked}
 use Rattle.command_line.specs.Jobs.Asked.{Races, Weaken, Record, Replay, Profile, Watch, Chain, Make}
 use Rattle.command_line.specs.declared.answer.Answer.{Answer}
 use Rattle.command_line.specs.declared.answer.Answer.TheVariants as answer
 use Rattle.command_line.specs.declared.answer.Part.{Part}
 use Rattle.command_line.specs.declared.answer.Part.TheVariants as part
-use Rattle.command_line.specs.declared.event.Event.{Event}
 use Rattle.c_tree.specs.Tree.{Outer}
 use Rattle.chain_report.specs.declared.point.Point.{Point}
 use Rattle.core_run.specs.Walks.{WalkIs}
@@ -39,22 +38,22 @@ use Rattle.walk_hits.specs.Telling.{TellsHit}
 use Rattle.walk_profiles.proofs.One.{one_profile}
 use Rattle.walk_profiles.specs.Profiling.{ShowsProfile}
 use Rattle.jobs.specs.Chainings.{OrdersLog, point_of}
-use Rattle.jobs.specs.Jobs.{IsChaining, IsProfiling, IsRaces, IsRecord, IsReplay, IsWatching, IsWeaken}
+use Rattle.jobs.specs.Jobs.{IsDone, RecordsRun, puts_first}
 use Rattle.jobs.specs.Laws.{OneOutcome, OneRefusal}
 use Rattle.jobs.specs.Listings.{ListsRaces, ListsWeakLocks}
-use Rattle.job_profiles.specs.Profiles.{IsProfile, IsSpelled, named}
-use Rattle.jobs.specs.Makings.{IsMade, IsMaking, source_put}
+use Rattle.job_profiles.specs.Profiles.{IsProfile, IsSpelled}
 use Rattle.jobs.specs.Profilings.{ShowsLog}
-use Rattle.jobs.specs.Recordings.{IsRecording}
+use Rattle.jobs.specs.Readings.{InputIs, IsAccepted, IsLogOf, LogIs, Reading, Reads, SourceAsked, SourceIs, reading_of}
+use Rattle.jobs.specs.Readings.SourceAsked.{InFile, Made}
 use Rattle.job_runs.specs.Logs.{IsLogIn, IsRefusal}
 use Rattle.jobs.specs.Replays.{Replays}
 use Rattle.jobs.specs.Sources.{IsFound, IsTree}
 use Rattle.jobs.specs.Watchings.{TellsLog}
 use Rattle.job_runs.specs.Works.{IsOfRun, Work}
 use Rattle.job_runs.proofs.Worked.{told_of_run}
+use Rattle.jobs.proofs.InOrder.{AfterLog, AfterProfile, AfterSource, AfterTree}
 use Rattle.jobs.proofs.Worked.{made_is_of_run}
 use Rattle.walk_answers.specs.Walking.{formula_of, put_of}
-use Rattle.workload.specs.Program.{program_text}
 
 -- ---- steps
 
@@ -69,6 +68,10 @@ module _ {X : Type 0} (IsStep : Result X Answer → Type 0) (Next Other : X → 
 
   pub comes_once : ((r s : Result X Answer) → IsStep r → IsStep s → r ≡ s) → ((x : X) → Next x o → Other x p → o ≡ p) → Comes IsStep Next o → Comes IsStep Other p → o ≡ p
   comes_once one next = comes_once_by one (λ x is. next x)
+
+-- a step that has found this, and what comes of it
+comes_at : {X : Type 0} (IsStep : Result X Answer → Type 0) (Next : X → Outcome → Type 0) (o : Outcome) (x : X) → ((r s : Result X Answer) → IsStep r → IsStep s → r ≡ s) → IsStep (Ok x) → Comes IsStep Next o → Next x o
+comes_at IsStep Next o x once is h = subst (λ r. Then Next r o) (once h.step (Ok x) h.is is) h.next
 
 same_some : {A : Type 0} (x y : A) → Some x ≡ Some y → x ≡ y
 same_some x y e = cc e
@@ -171,96 +174,86 @@ orders_once log limits one other os o p h g =
     let same : h.found ≡ g.found = found_once os log.profile h.found g.found h.is g.is in
     one_chain g.found.weak log.setup log.entries one other o p (weakened_runs g.found g.is.is) limits (subst (λ (w : Analysed). TellsChain w.weak log.setup log.entries one other o) same h.tells) g.tells
 
--- ---- jobs
+-- ---- what is read
 
--- the source of every job
-source_once : (files : Files) (source : List ℕ) (Next Other : List ℕ → Outcome → Type 0) (o p : Outcome) → ((text : List ℕ) → Next text o → Other text p → o ≡ p) → Comes (IsFile (Some files) 1048576 part.Source source) Next o → Comes (IsFile (Some files) 1048576 part.Source source) Other p → o ≡ p
-source_once files source Next Other o p next h g = comes_once (IsFile (Some files) 1048576 part.Source source) Next Other o p (file_once files 1048576 part.Source source) next h g
+source_once : (files : Files) (source : SourceAsked) (r s : Result (List ℕ) Answer) → SourceIs (Some files) source r → SourceIs (Some files) source s → r ≡ s
+source_once files (InFile name) r s h g = file_once files 1048576 part.Source name r s h g
+source_once files (Made count) r s h g = h ∙ sym g
 
-by_tree : (text : List ℕ) (Next Other : List Outer → Outcome → Type 0) (o p : Outcome) → ((os : List Outer) → Next os o → Other os p → o ≡ p) → Comes (IsTree text) Next o → Comes (IsTree text) Other p → o ≡ p
-by_tree text Next Other o p next h g = comes_once (IsTree text) Next Other o p (tree_once text) next h g
+log_of_once : (file : Result (List ℕ) Answer) (r s : Result LogView Answer) → IsLogOf file r → IsLogOf file s → r ≡ s
+log_of_once (Ok bytes) r s h g = log_once bytes r s h g
+log_of_once (Err b) r s h g = h ∙ sym g
 
-of_races : (files : Files) (source : List ℕ) (o p : Outcome) → IsRaces (Some files) source o → IsRaces (Some files) source p → o ≡ p
-of_races files source o p h g =
-    let Next = λ (text : List ℕ). Comes (IsTree text) ListsRaces in
-    source_once files source Next Next o p (λ text. by_tree text ListsRaces ListsRaces o p (λ os. races_once os o p)) h g
+log_is_once : (files : Files) (log : Option (List ℕ)) (r s : Result LogView Answer) → LogIs (Some files) log r → LogIs (Some files) log s → r ≡ s
+log_is_once files None r s h g = h ∙ sym g
+log_is_once files (Some log) r s h g = log_of_once g.0 r s (subst (λ f. IsLogOf f r) (file_once files 536870912 part.Log log h.0 g.0 h.1 g.1) h.2) g.2
 
-of_weaken : (files : Files) (source : List ℕ) (name : Option (List ℕ)) (o p : Outcome) → IsWeaken (Some files) source name o → IsWeaken (Some files) source name p → o ≡ p
-of_weaken files source name o p h g =
-    let Lists = λ (text : List ℕ) (q : ProfileOf). Comes (IsTree text) (ListsWeakLocks q) in
-    let Next = λ (text : List ℕ). Comes (IsProfile (Some files) name) (Lists text) in
-    source_once files source Next Next o p
-    (λ text. comes_once (IsProfile (Some files) name) (Lists text) (Lists text) o p (profile_once files name)
-    (λ q. by_tree text (ListsWeakLocks q) (ListsWeakLocks q) o p (λ os. locks_once q os o p))) h g
+pub input_is_once : (left : List ℕ) (reads : Bool) (r s : Result (List ℕ) Answer) → InputIs (Some left) reads r → InputIs (Some left) reads s → r ≡ s
+input_is_once left true r s h g = input_once left 1048576 part.Input r s h g
+input_is_once left false r s h g = h ∙ sym g
 
--- what comes of a source and a log
-abbrev OfLog : (LogView → List Outer → Outcome → Type 0) → (text : List ℕ) → LogView → Outcome → Type 0
-OfLog Next text view = Comes (IsTree text) (Next view)
+-- a log in a file has its setup within the limits
+log_limits : (file : Result (List ℕ) Answer) (view : LogView) → IsLogOf file (Ok view) → IsWithinLimits view.setup
+log_limits (Ok bytes) view h = h.1.setup
+log_limits (Err a) view h = absurd (cc h)
 
-abbrev OfBytes : (LogView → List Outer → Outcome → Type 0) → (text bytes : List ℕ) → Outcome → Type 0
-OfBytes Next text bytes = Comes (IsLogIn bytes) (OfLog Next text)
+module _ (files : Files) (reading : Reading) where
+  -- what comes of all that is read is one, where the input is
+  reads_once : (left : Option (List ℕ)) (Next Other : ProfileOf → LogView → List Outer → List ℕ → Outcome → Type 0) (o p : Outcome)
+      → ((r s : Result (List ℕ) Answer) → InputIs left reading.input r → InputIs left reading.input s → r ≡ s)
+      → ((q : ProfileOf) (view : LogView) → LogIs (Some files) reading.log (Ok view) → (os : List Outer) (input : List ℕ) → Next q view os input o → Other q view os input p → o ≡ p)
+      → Reads (Some files) left reading Next o → Reads (Some files) left reading Other p → o ≡ p
+  reads_once left Next Other o p one next h g =
+      comes_once (SourceIs (Some files) reading.source) (AfterSource (Some files) left reading Next) (AfterSource (Some files) left reading Other) o p (source_once files reading.source)
+      (λ text. comes_once (IsProfile (Some files) reading.profile) (AfterProfile (Some files) left reading Next text) (AfterProfile (Some files) left reading Other text) o p (profile_once files reading.profile)
+      (λ q. comes_once_by (LogIs (Some files) reading.log) (AfterLog (Some files) left reading Next text q) (AfterLog (Some files) left reading Other text q) o p (log_is_once files reading.log)
+      (λ view is. comes_once (IsTree text) (AfterTree (Some files) left reading Next q view) (AfterTree (Some files) left reading Other q view) o p (tree_once text)
+      (λ os. comes_once (InputIs left reading.input) (Next q view os) (Other q view os) o p one (next q view is os))))) h g
 
-abbrev OfFile : (files : Files) (log : List ℕ) → (LogView → List Outer → Outcome → Type 0) → (text : List ℕ) → Outcome → Type 0
-OfFile files log Next text = Comes (IsFile (Some files) 536870912 part.Log log) (OfBytes Next text)
+  -- what was accepted is what comes next
+  pub reads_at : (left : Option (List ℕ)) → ((r s : Result (List ℕ) Answer) → InputIs left reading.input r → InputIs left reading.input s → r ≡ s)
+      → (Next : ProfileOf → LogView → List Outer → List ℕ → Outcome → Type 0) (o : Outcome) (by : IsAccepted (Some files) left reading) → Reads (Some files) left reading Next o → Next by.given by.followed by.os by.read o
+  reads_at left one Next o by h =
+      comes_at (InputIs left reading.input) (Next by.given by.followed by.os) o by.read one by.input
+      (comes_at (IsTree by.text) (AfterTree (Some files) left reading Next by.given by.followed) o by.os (tree_once by.text) by.tree
+      (comes_at (LogIs (Some files) reading.log) (AfterLog (Some files) left reading Next by.text by.given) o by.followed (log_is_once files reading.log) by.log
+      (comes_at (IsProfile (Some files) reading.profile) (AfterProfile (Some files) left reading Next by.text) o by.given (profile_once files reading.profile) by.profile
+      (comes_at (SourceIs (Some files) reading.source) (AfterSource (Some files) left reading Next) o by.text (source_once files reading.source) by.source h))))
 
-by_log : (files : Files) (source log : List ℕ) (Next Other : LogView → List Outer → Outcome → Type 0) (o p : Outcome) → ((view : LogView) → IsWithinLimits view.setup → (os : List Outer) → Next view os o → Other view os p → o ≡ p)
-    → Comes (IsFile (Some files) 1048576 part.Source source) (OfFile files log Next) o → Comes (IsFile (Some files) 1048576 part.Source source) (OfFile files log Other) p → o ≡ p
-by_log files source log Next Other o p once h g =
-    source_once files source (OfFile files log Next) (OfFile files log Other) o p
-    (λ text. comes_once (IsFile (Some files) 536870912 part.Log log) (OfBytes Next text) (OfBytes Other text) o p (file_once files 536870912 part.Log log)
-    (λ bytes. comes_once_by (IsLogIn bytes) (OfLog Next text) (OfLog Other text) o p (log_once bytes)
-    (λ view is. by_tree text (Next view) (Other view) o p (once view is.1.setup)))) h g
+-- ---- what comes of it
 
-of_replay : (a b c d : Work) (files : Files) (source log : List ℕ) (reads : Option (List ℕ)) (o p : Outcome) → IsReplay a b (Some files) source log reads o → IsReplay c d (Some files) source log reads p → o ≡ p
-of_replay a b c d files source log reads o p h g = by_log files source log (λ view. Replays a b view reads) (λ view. Replays c d view reads) o p (λ view limits os. replays_once a b c d view reads os o p) h g
+-- a job that records no run
+done_once : (a b c d : Work) (files : Files) (job : Asked) (q : ProfileOf) (view : LogView) (os : List Outer) (input : List ℕ) (o p : Outcome) → (RecordsRun (Some job) → ⊥) → LogIs (Some files) (reading_of job).log (Ok view) → IsDone a b job q view os input o → IsDone c d job q view os input p → o ≡ p
+done_once a b c d files (Races source) q view os input o p none is h g = races_once os o p h g
+done_once a b c d files (Weaken source name) q view os input o p none is h g = locks_once q os o p h g
+done_once a b c d files (Record r) q view os input o p none is h g = absurd (none tt)
+done_once a b c d files (Replay source log reads) q view os input o p none is h g = replays_once a b c d view reads os o p h g
+done_once a b c d files (Profile source log name) q view os input o p none is h g = shows_once view name os o p h g
+done_once a b c d files (Watch source log formula) q view os input o p none is h g = tells_once view formula os o p h g
+done_once a b c d files (Chain source log i j) q view os input o p none is h g = orders_once view (log_limits is.0 view is.2) (point_of i) (point_of j) os o p h g
+done_once a b c d files (Make count name) q view os input o p none is h g = absurd (none tt)
 
-of_profile : (files : Files) (source log name : List ℕ) (o p : Outcome) → IsProfiling (Some files) source log name o → IsProfiling (Some files) source log name p → o ≡ p
-of_profile files source log name o p h g = by_log files source log (λ view. ShowsLog view name) (λ view. ShowsLog view name) o p (λ view limits os. shows_once view name os o p) h g
+-- it reads no input
+unread_once : (left : Option (List ℕ)) (job : Asked) → (RecordsRun (Some job) → ⊥) → (r s : Result (List ℕ) Answer) → InputIs left (reading_of job).input r → InputIs left (reading_of job).input s → r ≡ s
+unread_once left (Record asked) none r s h g = absurd (none tt)
+unread_once left (Make count name) none r s h g = absurd (none tt)
+unread_once left _ none r s h g = h ∙ sym g
 
-of_watch : (files : Files) (source log : List ℕ) (formula : Formula) (o p : Outcome) → IsWatching (Some files) source log formula o → IsWatching (Some files) source log formula p → o ≡ p
-of_watch files source log formula o p h g = by_log files source log (λ view. TellsLog view formula) (λ view. TellsLog view formula) o p (λ view limits os. tells_once view formula os o p) h g
-
-of_chain : (files : Files) (source log : List ℕ) (one other : Event) (o p : Outcome) → IsChaining (Some files) source log one other o → IsChaining (Some files) source log one other p → o ≡ p
-of_chain files source log one other o p h g =
-    let Orders = λ (view : LogView). OrdersLog view (point_of one) (point_of other) in
-    by_log files source log Orders Orders o p (λ view limits os. orders_once view limits (point_of one) (point_of other) os o p) h g
-
--- ---- jobs that record a run, where they are refused
-
-of_record : (a b c d : Work) (files : Files) (left : List ℕ) (r : RecordAsked) (o p : Outcome) → (IsOfRun o.answer → ⊥) → IsRecord a b (Some files) (Some left) r o → IsRecord c d (Some files) (Some left) r p → o ≡ p
-of_record a b c d files left r o p unrun h g =
-    let First = λ (q : ProfileOf) (os : List Outer). Comes (IsInput (Some left) 1048576 part.Input) (λ input. IsRecording a b r (named q) os input) in
-    let Second = λ (q : ProfileOf) (os : List Outer). Comes (IsInput (Some left) 1048576 part.Input) (λ input. IsRecording c d r (named q) os input) in
-    source_once files r.source (λ text. Comes (IsProfile (Some files) r.profile) (λ q. Comes (IsTree text) (First q))) (λ text. Comes (IsProfile (Some files) r.profile) (λ q. Comes (IsTree text) (Second q))) o p
-    (λ text. comes_once (IsProfile (Some files) r.profile) (λ q. Comes (IsTree text) (First q)) (λ q. Comes (IsTree text) (Second q)) o p (profile_once files r.profile)
-    (λ q. by_tree text (First q) (Second q) o p
-    (λ os. comes_once (IsInput (Some left) 1048576 part.Input) (λ input. IsRecording a b r (named q) os input) (λ input. IsRecording c d r (named q) os input) o p (input_once left 1048576 part.Input)
-    (λ input x y. absurd (unrun (told_of_run o _ x.walk x.told refl)))))) h g
-
-of_make : (a b c d : Work) (count : ℕ) (name : List ℕ) (o p : Outcome) → (IsOfRun o.answer → ⊥) → IsMaking a b count name o → IsMaking c d count name p → o ≡ p
-of_make a b c d count name o p unrun h g =
-    let none = λ (x : IsOfRun h.rest.answer). unrun (subst IsOfRun (sym (ap (λ (y : Outcome). y.answer) h.told)) x) in
-    let same : h.rest ≡ g.rest = by_tree (program_text count) (IsMade a b count name) (IsMade c d count name) h.rest g.rest (λ os x y. absurd (none (made_is_of_run a b count name os h.rest x))) h.comes g.comes in
-    h.told ∙ ap (following (source_put count name ∷ [])) same ∙ sym g.told
+-- what comes of a run is told of it
+refused_once : (a b c d : Work) (files : Files) (job : Asked) (q : ProfileOf) (view : LogView) (os : List Outer) (input : List ℕ) (o p : Outcome) → (IsOfRun o.answer → ⊥) → LogIs (Some files) (reading_of job).log (Ok view) → IsDone a b job q view os input o → IsDone c d job q view os input p → o ≡ p
+refused_once a b c d files (Record r) q view os input o p unrun is h g = absurd (unrun (told_of_run o _ h.walk h.told refl))
+refused_once a b c d files (Make count name) q view os input o p unrun is h g = absurd (unrun (made_is_of_run a b count name os o h))
+refused_once a b c d files job q view os input o p unrun is h g = done_once a b c d files job q view os input o p (λ x. x) is h g
 
 pub one_refusal : OneRefusal
 one_refusal a b c d files left None o p unrun h g = h.is ∙ sym g.is
-one_refusal a b c d files left (Some (Races source)) o p unrun h g = of_races files source o p h.is g.is
-one_refusal a b c d files left (Some (Weaken source name)) o p unrun h g = of_weaken files source name o p h.is g.is
-one_refusal a b c d files left (Some (Record r)) o p unrun h g = of_record a b c d files left r o p unrun h.is g.is
-one_refusal a b c d files left (Some (Replay source log reads)) o p unrun h g = of_replay a b c d files source log reads o p h.is g.is
-one_refusal a b c d files left (Some (Profile source log name)) o p unrun h g = of_profile files source log name o p h.is g.is
-one_refusal a b c d files left (Some (Watch source log formula)) o p unrun h g = of_watch files source log formula o p h.is g.is
-one_refusal a b c d files left (Some (Chain source log i j)) o p unrun h g = of_chain files source log i j o p h.is g.is
-one_refusal a b c d files left (Some (Make count name)) o p unrun h g = of_make a b c d count name o p unrun h.is g.is
+one_refusal a b c d files left (Some job) o p unrun h g =
+    let none = λ (x : IsOfRun h.is.rest.answer). unrun (subst IsOfRun (sym (ap (λ (y : Outcome). y.answer) h.is.told)) x) in
+    let same : h.is.rest ≡ g.is.rest = reads_once files (reading_of job) (Some left) (IsDone a b job) (IsDone c d job) h.is.rest g.is.rest (input_is_once left (reading_of job).input) (λ q view is os input. refused_once a b c d files job q view os input h.is.rest g.is.rest none is) h.is.comes g.is.comes in
+    h.is.told ∙ ap (following (puts_first job)) same ∙ sym g.is.told
 
 pub one_outcome : OneOutcome
 one_outcome a b c d files left None o p none h g = h.is ∙ sym g.is
-one_outcome a b c d files left (Some (Races source)) o p none h g = of_races files source o p h.is g.is
-one_outcome a b c d files left (Some (Weaken source name)) o p none h g = of_weaken files source name o p h.is g.is
-one_outcome a b c d files left (Some (Record r)) o p none h g = absurd (none tt)
-one_outcome a b c d files left (Some (Replay source log reads)) o p none h g = of_replay a b c d files source log reads o p h.is g.is
-one_outcome a b c d files left (Some (Profile source log name)) o p none h g = of_profile files source log name o p h.is g.is
-one_outcome a b c d files left (Some (Watch source log formula)) o p none h g = of_watch files source log formula o p h.is g.is
-one_outcome a b c d files left (Some (Chain source log i j)) o p none h g = of_chain files source log i j o p h.is g.is
-one_outcome a b c d files left (Some (Make count name)) o p none h g = absurd (none tt)
+one_outcome a b c d files left (Some job) o p none h g =
+    let same : h.is.rest ≡ g.is.rest = reads_once files (reading_of job) left (IsDone a b job) (IsDone c d job) h.is.rest g.is.rest (unread_once left job none) (λ q view is os input. done_once a b c d files job q view os input h.is.rest g.is.rest none is) h.is.comes g.is.comes in
+    h.is.told ∙ ap (following (puts_first job)) same ∙ sym g.is.told

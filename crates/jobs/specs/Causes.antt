@@ -1,96 +1,22 @@
 -- Which cause each status has, on files and an input that are told.
-use Rattle.std.specs.Prelude.{◌≡◌, ◌≢◌, ℕ, List, Option, Some, None, Result, Ok, Err}
+use Rattle.std.specs.Prelude.{◌≡◌, ◌≢◌, ℕ, List, Option, Some, None, is_some, IsTrue}
 use Rattle.command_line.specs.Answers.{status_of}
 use Rattle.command_line.specs.Jobs.{Asked}
-use Rattle.command_line.specs.Jobs.Asked.{Races, Weaken, Record, Replay, Profile, Watch, Chain, Make}
+use Rattle.command_line.specs.Jobs.Asked.{Races, Weaken, Replay, Watch}
 use Rattle.command_line.specs.declared.answer.Answer.{Answer}
 use Rattle.command_line.specs.declared.answer.Answer.TheVariants as answer
-use Rattle.command_line.specs.declared.answer.Part.TheVariants as part
-use Rattle.c_tree.specs.Tree.{Outer}
 use Rattle.core_run.specs.Walks.{WalkIs}
 use Rattle.thread_interpreter.specs.declared.access.Formula.{Formula}
 use Rattle.core_run.specs.declared.outcome.Walk.{Walk}
-use Rattle.profiles.specs.declared.profile.Profile.{Profile as ProfileOf}
-use Rattle.job_profiles.specs.Profiles.{IsProfile}
 use Rattle.lock_sound.specs.Weakened.{Analysed}
-use Rattle.order_log.specs.Log.{LogView}
 use Rattle.job_outcomes.specs.Endings.{Outside}
-use Rattle.job_outcomes.specs.Steps.{IsFile, IsInput}
 use Rattle.rr_base.specs.Faults.{Rose}
 use Rattle.rr_base.specs.Files.{Files}
 use Rattle.walk_answers.specs.Walking.{answer_of, formula_of, no_reads}
-use Rattle.workload.specs.Program.{program_text}
 use Rattle.jobs.specs.Asks.{AsksCrew, AsksInput}
 use Rattle.jobs.specs.Jobs.{UsesShelf}
-use Rattle.job_runs.specs.Logs.{IsLogIn}
-use Rattle.jobs.specs.Sources.{IsFound, IsTree}
-
--- ---- what a job reads, in the order of work
-
--- what it doesn't read is never refused
-abbrev pub Passes : {X : Type 0} → Result X Answer → Type 0
-Passes (Ok x) = Unit {0}
-Passes (Err a) = ⊥
-
--- the text of its source, which is in a file or made
-abbrev pub SourceIs : Files → Asked → Result (List ℕ) Answer → Type 0
-SourceIs files (Races source) r = IsFile (Some files) 1048576 part.Source source r
-SourceIs files (Weaken source name) r = IsFile (Some files) 1048576 part.Source source r
-SourceIs files (Record asked) r = IsFile (Some files) 1048576 part.Source asked.source r
-SourceIs files (Replay source log reads) r = IsFile (Some files) 1048576 part.Source source r
-SourceIs files (Profile source log name) r = IsFile (Some files) 1048576 part.Source source r
-SourceIs files (Watch source log formula) r = IsFile (Some files) 1048576 part.Source source r
-SourceIs files (Chain source log one other) r = IsFile (Some files) 1048576 part.Source source r
-SourceIs files (Make count name) r = r ≡ Ok (program_text count)
-
--- the profile that it is given
-abbrev pub ProfileIs : Files → Asked → Result ProfileOf Answer → Type 0
-ProfileIs files (Weaken source name) r = IsProfile (Some files) name r
-ProfileIs files (Record asked) r = IsProfile (Some files) asked.profile r
-ProfileIs files _ r = Passes r
-
--- the log in a file that was read, or the refusal of either
-abbrev pub IsLogOf : (file : Result (List ℕ) Answer) → Result LogView Answer → Type 0
-IsLogOf (Ok bytes) r = IsLogIn bytes r
-IsLogOf (Err a) r = r ≡ Err a
-
--- a log file has at most 512 MiB (536870912 bytes)
-abbrev pub IsLogFile : Files → (log : List ℕ) → Result LogView Answer → Type 0
-IsLogFile files log r = (file : Result (List ℕ) Answer) × IsFile (Some files) 536870912 part.Log log file × IsLogOf file r
-
--- the log that it follows
-abbrev pub LogIs : Files → Asked → Result LogView Answer → Type 0
-LogIs files (Replay source log reads) r = IsLogFile files log r
-LogIs files (Profile source log name) r = IsLogFile files log r
-LogIs files (Watch source log formula) r = IsLogFile files log r
-LogIs files (Chain source log one other) r = IsLogFile files log r
-LogIs files _ r = Passes r
-
--- the input of the run that it records
-abbrev pub InputIs : (left : List ℕ) → Asked → Result (List ℕ) Answer → Type 0
-InputIs left (Record asked) r = IsInput (Some left) 1048576 part.Input r
-InputIs left _ r = Passes r
-
--- the first refusal of what it reads
-pub data Refuses (files : Files) (left : List ℕ) (job : Asked) (a : Answer) : Type 0 where
-  AtSource : SourceIs files job (Err a) → Refuses files left job a
-  AtProfile : (text : List ℕ) → SourceIs files job (Ok text) → ProfileIs files job (Err a) → Refuses files left job a
-  AtLog : (text : List ℕ) → SourceIs files job (Ok text) → LogIs files job (Err a) → Refuses files left job a
-  AtTree : (text : List ℕ) → SourceIs files job (Ok text) → (p : ProfileOf) → ProfileIs files job (Ok p) → (log : LogView) → LogIs files job (Ok log) → IsTree text (Err a) → Refuses files left job a
-  AtInput : (text : List ℕ) → SourceIs files job (Ok text) → (p : ProfileOf) → ProfileIs files job (Ok p) → (os : List Outer) → IsTree text (Ok os) → InputIs left job (Err a) → Refuses files left job a
-
--- nothing of it is refused
-pub record IsAccepted (files : Files) (left : List ℕ) (job : Asked) : Type 0 where
-  pub text : List ℕ
-  pub source : SourceIs files job (Ok text)
-  pub given : ProfileOf
-  pub profile : ProfileIs files job (Ok given)
-  pub followed : LogView
-  pub log : LogIs files job (Ok followed)
-  pub os : List Outer
-  pub tree : IsTree text (Ok os)
-  pub read : List ℕ
-  pub input : InputIs left job (Ok read)
+use Rattle.jobs.specs.Readings.{IsAccepted, Refuses, reading_of}
+use Rattle.jobs.specs.Sources.{IsFound}
 
 -- ---- what it answers then
 
@@ -102,11 +28,7 @@ Walks _ = Unit {0}
 
 -- its entries come from a log, and one may be wrong
 abbrev pub FollowsLog : Asked → Type 0
-FollowsLog (Replay source log reads) = Unit {0}
-FollowsLog (Profile source log name) = Unit {0}
-FollowsLog (Watch source log formula) = Unit {0}
-FollowsLog (Chain source log one other) = Unit {0}
-FollowsLog _ = ⊥
+FollowsLog job = IsTrue (is_some (reading_of job).log)
 
 -- which of the walk's accesses are kept
 abbrev pub kept_by : Asked → Formula
@@ -126,15 +48,15 @@ MayAnswer job _ = ⊥
 -- why the program may have ended with this exit status
 pub data CauseOf (files : Files) (left : List ℕ) (job : Option Asked) (old new : Outside) (status : ℕ) : Type 0 where
   NoJob : job ≡ None → status ≡ 1 → CauseOf files left job old new status
-  Refused : (asked : Asked) → job ≡ Some asked → (a : Answer) → Refuses files left asked a → status ≡ status_of a → CauseOf files left job old new status
-  Answered : (asked : Asked) → job ≡ Some asked → IsAccepted files left asked → (a : Answer) → MayAnswer asked a → status ≡ status_of a → CauseOf files left job old new status
+  Refused : (asked : Asked) → job ≡ Some asked → (a : Answer) → Refuses (Some files) (Some left) (reading_of asked) a → status ≡ status_of a → CauseOf files left job old new status
+  Answered : (asked : Asked) → job ≡ Some asked → IsAccepted (Some files) (Some left) (reading_of asked) → (a : Answer) → MayAnswer asked a → status ≡ status_of a → CauseOf files left job old new status
   InputFailed : AsksInput (Some files) job → Rose old.counts.input new.counts.input → status ≡ 7 → CauseOf files left job old new status
   OutputFailed : Rose old.out.faults new.out.faults → status ≡ 8 → CauseOf files left job old new status
   ShelfFailed : UsesShelf job → Rose old.counts.shelf new.counts.shelf → status ≡ 9 → CauseOf files left job old new status
   CrewFailed : AsksCrew (Some files) (Some left) job → Rose old.counts.crew new.counts.crew → status ≡ 10 → CauseOf files left job old new status
   LacksMemory : status ≡ 12 → CauseOf files left job old new status
 
--- no part of the outside failed, and memory was not wanting
+-- no part of the outside failed, and memory did not run out
 pub record WentWell (old new : Outside) (status : ℕ) : Type 0 where
   pub input : Rose old.counts.input new.counts.input → ⊥
   pub output : Rose old.out.faults new.out.faults → ⊥
@@ -145,6 +67,6 @@ pub record WentWell (old new : Outside) (status : ℕ) : Type 0 where
 -- then the words, the files and the input decide, and for a log that is read its walk
 pub record IsDecided (files : Files) (left : List ℕ) (job : Option Asked) (status : ℕ) : Type 0 where
   pub none : job ≡ None → status ≡ 1
-  pub refused : (asked : Asked) → job ≡ Some asked → (a : Answer) → Refuses files left asked a → status ≡ status_of a
-  pub accepted : (asked : Asked) → job ≡ Some asked → IsAccepted files left asked → (a : Answer) × MayAnswer asked a × (status ≡ status_of a)
-  pub walked : (asked : Asked) → job ≡ Some asked → FollowsLog asked → (by : IsAccepted files left asked) → (found : Analysed) → IsFound by.os by.followed.profile found → (w : Walk) → WalkIs found.weak by.followed.setup by.followed.entries (kept_by asked) w → status ≡ status_of (answer_of w)
+  pub refused : (asked : Asked) → job ≡ Some asked → (a : Answer) → Refuses (Some files) (Some left) (reading_of asked) a → status ≡ status_of a
+  pub accepted : (asked : Asked) → job ≡ Some asked → IsAccepted (Some files) (Some left) (reading_of asked) → (a : Answer) × MayAnswer asked a × (status ≡ status_of a)
+  pub walked : (asked : Asked) → job ≡ Some asked → FollowsLog asked → (by : IsAccepted (Some files) (Some left) (reading_of asked)) → (found : Analysed) → IsFound by.os by.followed.profile found → (w : Walk) → WalkIs found.weak by.followed.setup by.followed.entries (kept_by asked) w → status ≡ status_of (answer_of w)

@@ -8,6 +8,10 @@ pub mod Chainings
 pub mod Recordings
 pub mod Makings
 pub mod Asks
+pub mod Readings
 pub mod Jobs
+pub mod Moments
+pub mod Headline
 pub mod Causes
 pub mod Laws
+pub mod Repeats

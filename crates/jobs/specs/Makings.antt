@@ -1,13 +1,16 @@
 -- A large source is made and put, recorded, and replayed by its log.
-use Rattle.std.specs.Prelude.{◌≡◌, ℕ, List, [], ◌∷◌, ◌++◌, length, None, Ok, codes}
+use Rattle.std.specs.Prelude.{◌≡◌, ℕ, List, [], ◌∷◌, ◌++◌, length, Option, None, Result, Ok, codes}
 use Rattle.command_line.specs.Jobs.{RecordAsked}
 use Rattle.c_tree.specs.Tree.{Outer}
 use Rattle.profiles.specs.declared.profile.Profile.TheVariants as profile
 use Rattle.order_log.specs.Log.{LogView}
+use Rattle.job_outcomes.specs.Endings.{ComesTo}
 use Rattle.job_outcomes.specs.Outcomes.{following}
-use Rattle.job_outcomes.specs.Puts.{Put}
+use Rattle.job_outcomes.specs.Puts.{ArePut, Put}
 use Rattle.job_outcomes.specs.Steps.{Comes}
 use Rattle.job_outcomes.specs.declared.outcome.Outcome.{Outcome}
+use Rattle.job_outcomes.specs.declared.stop.Stop.{Stop}
+use Rattle.rr_base.specs.Files.{Files}
 use Rattle.sync_objects.specs.declared.entry.Entry.{Entry}
 use Rattle.workload.specs.Program.{program_text}
 use Rattle.job_runs.specs.Recordings.{log_of}
@@ -42,13 +45,24 @@ pub record IsMade (old new : Work) (count : ℕ) (name : List ℕ) (os : List Ou
   pub replaying : Replays between new (made_log name recording.entries) None os replayed
   pub told : o ≡ record { puts = recorded.puts; answer = summary_told count (length (program_text count)) recorded.answer replayed.answer }
 
+-- What is put before the outcome is found: the source; or then, where only the replay is left to do, the log of the recording that
+-- the crew has run since the call began, too.
+pub data IsPutInMaking (old : Work) (count : ℕ) (name : List ℕ) (puts : List Put) : Type 0 where
+  Source : puts ≡ source_put count name ∷ [] → IsPutInMaking old count name puts
+  SourceAndLog : (between : Work) (os : List Outer) (recorded : Outcome) → IsTree (program_text count) (Ok os) → IsRecording old between (recording_of name) profile.All os [] recorded → puts ≡ source_put count name ∷ recorded.puts → IsPutInMaking old count name puts
+
+-- ---- for private clauses
+
 -- The source is put before anything else.
 pub record IsMaking (old new : Work) (count : ℕ) (name : List ℕ) (o : Outcome) : Type 0 where
   pub rest : Outcome
   pub comes : Comes (IsTree (program_text count)) (IsMade old new count name) rest
   pub told : o ≡ following (source_put count name ∷ []) rest
 
--- what is put before the outcome is found: the source; or then the log of a recording, too
-pub data IsPutInMaking (count : ℕ) (name : List ℕ) (puts : List Put) : Type 0 where
-  Source : puts ≡ source_put count name ∷ [] → IsPutInMaking count name puts
-  SourceAndLog : (old new : Work) (os : List Outer) (recorded : Outcome) → IsTree (program_text count) (Ok os) → IsRecording old new (recording_of name) profile.All os [] recorded → puts ≡ source_put count name ∷ recorded.puts → IsPutInMaking count name puts
+-- what a call that makes a source comes to
+abbrev pub Makes : (old new : Work) → (count : ℕ) → (name : List ℕ) → (before after : Option Files) → Result Outcome Stop → Type 0
+Makes old new count name before after r = ComesTo (IsMaking old new count name) (IsPutInMaking old count name) before after r
+
+-- .. once the source is put, whatever was there before
+abbrev pub MakesOncePut : (old new : Work) → (count : ℕ) → (name : List ℕ) → (between after : Option Files) → Result Outcome Stop → Type 0
+MakesOncePut old new count name between after r = (before : Option Files) → ArePut (source_put count name ∷ []) before between → Makes old new count name before after r

@@ -16,6 +16,7 @@ use Rattle.front.specs.Plain.{plain_code}
 use Rattle.front.specs.Readings.{sound, refused, IsReading}
 use Rattle.front.specs.declared.reading.SourceFault.{SourceFault}
 use Rattle.lock_sound.specs.Weakened.{Analysed, IsAnalysed}
+use Rattle.order_log.specs.Log.{LogView}
 use Rattle.job_outcomes.specs.declared.stop.Stop.{Stop}
 use Rattle.job_outcomes.specs.declared.stop.Stop.TheVariants as stop
 use Rattle.run_theory.specs.Labels.{Label}
@@ -60,6 +61,18 @@ Compiles source p (Err stop.ShelfFailed) = ⊥
 Compiles source p (Err stop.InputFailed) = ⊥
 Compiles source p (Err stop.CrewFailed) = ⊥
 Compiles source p (Err stop.OutOfMemory) = Unit {0}
+
+-- the code of a source for the log's profile, on which the log's walk is one of the source
+pub record IsCodeFor (source : List ℕ) (log : LogView) (found : Analysed) : Type 0 where
+  pub os : List Outer
+  pub tree : IsTree source (Ok os)
+  pub is : IsFound os log.profile found
+  pub walks : WalksAsSource os found.weak log.setup log.entries
+
+-- .. or its refusal
+abbrev pub CompilesFor : (source : List ℕ) → LogView → Result Analysed Stop → Type 0
+CompilesFor source log (Ok found) = IsCodeFor source log found
+CompilesFor source log (Err s) = Compiles source log.profile (Err s)
 
 -- in each run of the source's code for the profile All to the end of all threads, and for each list of entries: their walk is a run of the source
 pub record RunsAsSource (source : List ℕ) (found : Analysed) : Type 0 where

@@ -1,4 +1,4 @@
--- That a name is wanting which a job asks the shelf for, in the order of work.
+-- That a file is missing which a job asks the shelf for, in the order of work.
 use Rattle.std.specs.Prelude.{ℕ, List, ◌⊎◌, Option, Some, None, Ok}
 use Rattle.command_line.specs.Jobs.{Asked}
 use Rattle.command_line.specs.Jobs.Asked.{Races, Weaken, Record, Replay, Profile, Watch, Chain, Make}

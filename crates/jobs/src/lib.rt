@@ -1,10 +1,15 @@
-//! The jobs of the program: the listings of a source, a recorded run, a run by a log, the profile of a log, the first access of a
-//! log's run that meets a formula, what orders two accesses of it, and a made source, which is recorded and replayed. It joins the
-//! crates below, and promises for each job what its outcome is, which is its answer, the files that it puts, and what is known of its run.
+//! The jobs of the program: the listings of a source, a recorded run, a run by a log, the profile of a log, the first
+//! access of a log's run that meets a formula, what orders two accesses of it, and a made source, which is recorded and
+//! replayed.
+//!
+//! Its contract: `chimera`: what is put, what is written and the status are those of an outcome of the words' job; each
+//! other end has its cause.
+//! It knows nothing of how its parts are made.
 #![tactic(auto)]
 
 mod chaining;
 mod laws;
+mod logs;
 mod making;
 mod profiling;
 mod races;
@@ -15,5 +20,5 @@ mod top;
 mod watching;
 mod weak_locks;
 
-pub use laws::{law_one_outcome, law_one_refusal, law_statuses_have_causes};
+pub use laws::{law_one_outcome, law_one_refusal, law_replay_repeats, law_statuses_have_causes};
 pub use top::chimera;

@@ -1,31 +1,28 @@
 // A large source is made, put, recorded and replayed.
 
-ghost use Rattle.std.specs.Prelude.{◌≡◌, ◌≢◌, ◌≤◌, ◌^◌, [], ◌∷◌, ◌++◌, codes, length, string_bytes, Option, IfOk, MatchResult};
+ghost use Rattle.std.specs.Prelude.{◌≡◌, ◌≢◌, ◌≤◌, ◌^◌, ◌++◌, codes, length, string_bytes, IfOk, MatchResult};
 ghost use Rattle.command_line.specs.Jobs.{record_told};
 ghost use Rattle.jobs.specs.Asks.{HasTree};
 ghost use Rattle.jobs.specs.Makings as spec;
 ghost use Rattle.profiles.specs.declared.profile.Profile.TheVariants as profile;
 ghost use Rattle.jobs.specs.Sources.{Compiles, RunsAsSource};
 ghost use Rattle.job_runs.specs.Works.{IsIdle, work_of};
-ghost use Rattle.job_outcomes.specs.Endings.{ComesTo};
 ghost use Rattle.job_outcomes.specs.Faults.{CrewShelfStops};
-ghost use Rattle.job_outcomes.specs.Puts.{ArePut};
-ghost use Rattle.rr_base.specs.Files.{Files};
 ghost use Rattle.workload.specs.Program.{program_text};
 
 use crate::sources::compiled;
-use happens_before::law_ordered_walk;
 use command_line::RecordJob;
+use compile_correct::{law_text_erased_walk, law_text_log};
 use crew::Crew;
+use happens_before::law_ordered_walk;
+use job_outcomes::{Keeper, Outcome, Stop};
 use job_runs::{recorded_on, replayed_log};
 use lock_sound::Weakened;
-use job_outcomes::{Keeper, Outcome, Stop};
 use profiles::Profile;
 use rr_base::List;
 use std::alloc::{AllocError, Global};
 use std::sync::Wait;
 use std::thread::Threads;
-use compile_correct::{law_text_erased_walk, law_text_log};
 use workload::program_of;
 
 // The name of a made source's log.
@@ -78,7 +75,7 @@ fn made<'a, R: Threads + Wait + Sync, S: Keeper, C: Crew>(
     requires job { record_told job.now ≡ spec.recording_of job.now.source.now }
     requires code { RunsAsSource (program_text count) weakened.now }
     requires bytes { bytes ≡ length (program_text count) }
-    ensures outcome { (old : Option Files) → ArePut (spec.source_put count job.now.source.now ∷ []) old (S.files shelf.old) → ComesTo (spec.IsMaking (work_of C.Crew crew.old) (work_of C.Crew crew.new) count job.now.source.now) (spec.IsPutInMaking count job.now.source.now) old (S.files shelf.new) result }
+    ensures outcome { spec.MakesOncePut (work_of C.Crew crew.old) (work_of C.Crew crew.new) count job.now.source.now (S.files shelf.old) (S.files shelf.new) result }
     ensures idle { IsIdle result (work_of C.Crew crew.old) (work_of C.Crew crew.new) }
     ensures faults { MatchResult result (λ _. (S.faults shelf.new ≡ S.faults shelf.old) × (C.faults crew.new ≡ C.faults crew.old)) (λ stop. CrewShelfStops stop (S.faults shelf.old) (S.faults shelf.new) (C.faults crew.old) (C.faults crew.new)) }
     ensures sound { S.IsSound shelf.old → S.IsSound shelf.new }
@@ -103,7 +100,7 @@ pub(crate) fn make<'a, R: Threads + Wait + Sync, S: Keeper, C: Crew>(
 ) -> Result<Outcome<'a>, Stop>
     requires from { 1 ≤ count }
     requires to { count ≤ 1000 }
-    ensures outcome { ComesTo (spec.IsMaking (work_of C.Crew crew.old) (work_of C.Crew crew.new) count name.now) (spec.IsPutInMaking count name.now) (S.files shelf.old) (S.files shelf.new) result }
+    ensures outcome { spec.Makes (work_of C.Crew crew.old) (work_of C.Crew crew.new) count name.now (S.files shelf.old) (S.files shelf.new) result }
     ensures idle { IsIdle result (work_of C.Crew crew.old) (work_of C.Crew crew.new) }
     ensures faults { MatchResult result (λ _. (S.faults shelf.new ≡ S.faults shelf.old) × (C.faults crew.new ≡ C.faults crew.old)) (λ stop. CrewShelfStops stop (S.faults shelf.old) (S.faults shelf.new) (C.faults crew.old) (C.faults crew.new)) }
     ensures sound { S.IsSound shelf.old → S.IsSound shelf.new }

@@ -2,8 +2,8 @@
 
 ghost use Rattle.std.specs.Prelude.{◌≡◌, ◌≤◌, ◌^◌, length, IfErr, IfOk, MatchResult};
 ghost use Rattle.command_line.specs.declared.answer.Answer.TheVariants as answer;
-ghost use Rattle.jobs.specs.Jobs.{IsRaces};
 ghost use Rattle.jobs.specs.Listings.{ListsRaces};
+ghost use Rattle.jobs.specs.Readings.{ReadsSource};
 ghost use Rattle.jobs.specs.Sources.{IsTree};
 ghost use Rattle.job_outcomes.specs.Faults.{IsPure, ShelfStops};
 ghost use Rattle.listing.specs.Text.{races_text_of};
@@ -12,10 +12,10 @@ ghost use Rattle.job_outcomes.specs.Steps.{Comes, Gives, Lacks};
 
 use crate::sources::{SOURCE_BYTES, compiled};
 use command_line::{Answer, Part};
+use job_outcomes::{Keeper, Outcome, Stop, file};
 use job_runs::or_stop;
 use listing::races_text;
 use lock_sound::Weakened;
-use job_outcomes::{Keeper, Outcome, Stop, file};
 use profiles::Profile;
 use std::alloc::{AllocError, Global};
 
@@ -45,7 +45,7 @@ pub(crate) fn races<'a, S: Keeper>(
     source: &'a str,
     shelf: &mut S,
 ) -> Result<Outcome<'a>, Stop>
-    ensures outcome { Gives (IsRaces (S.files shelf.old) source.now) result }
+    ensures outcome { Gives (ReadsSource (S.files shelf.old) source.now ListsRaces) result }
     ensures files { S.files shelf.new ≡ S.files shelf.old }
     ensures faults { MatchResult result (λ _. S.faults shelf.new ≡ S.faults shelf.old) (λ stop. ShelfStops stop (S.faults shelf.old) (S.faults shelf.new)) }
     ensures sound { S.IsSound shelf.old → S.IsSound shelf.new }

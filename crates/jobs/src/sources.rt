@@ -6,8 +6,8 @@ ghost use Rattle.command_line.specs.declared.answer.Answer.TheVariants as answer
 
 use command_line::Answer;
 use front::{CompileFault, SourceFault, compile};
-use lock_sound::Weakened;
 use job_outcomes::Stop;
+use lock_sound::Weakened;
 use profiles::Profile;
 use std::alloc::Global;
 

@@ -1,13 +1,12 @@
 // The whole call: from words to the files that are put, what is written, and the status.
 
-ghost use Rattle.std.specs.Prelude.{◌≡◌, map, string_bytes, option_map, IfErr, IfSome, IsTrue, MatchResult, Some};
+ghost use Rattle.std.specs.Prelude.{◌≡◌, map, string_bytes, option_map, IfSome, IsTrue, Some};
 ghost use Rattle.command_line.specs.Jobs.{HasLimits, job_of as job_by, told};
 ghost use Rattle.jobs.specs.Asks.{AsksCrew, AsksInput};
-ghost use Rattle.jobs.specs.Jobs.{IsOutcome, PutsBefore, UsesShelf, is_status};
+ghost use Rattle.jobs.specs.Headline.{Headline};
+ghost use Rattle.jobs.specs.Jobs.{is_status};
+ghost use Rattle.jobs.specs.Moments.{ComesFor, CountsFor, EndsFor, StopsFor, moment, sight_of};
 ghost use Rattle.jobs.specs.Wants.{LacksFile};
-ghost use Rattle.job_runs.specs.Works.{work_of};
-ghost use Rattle.job_outcomes.specs.Endings.{ComesTo, Ends, MayStop};
-ghost use Rattle.job_outcomes.specs.Faults.{StopCounts};
 ghost use Rattle.rr_base.specs.Faults.{Rose};
 
 use crate::chaining::chain_log;
@@ -36,9 +35,9 @@ fn outcome_of_job<'a, R: Threads + Wait + Sync, I: Source, S: Keeper, C: Crew>(
     crew: &mut C,
 ) -> Result<Outcome<'a>, Stop>
     requires { HasLimits (told job) }
-    ensures outcome { ComesTo (IsOutcome (work_of C.Crew crew.old) (work_of C.Crew crew.new) (S.files shelf.old) (I.left input.old) (Some (told job.entry))) (PutsBefore (Some (told job.entry))) (S.files shelf.old) (S.files shelf.new) result }
-    ensures faults { MatchResult result (λ _. (S.faults shelf.new ≡ S.faults shelf.old) × (I.faults input.new ≡ I.faults input.old) × (C.faults crew.new ≡ C.faults crew.old)) (λ stop. StopCounts stop (record { shelf = S.faults shelf.old; input = I.faults input.old; crew = C.faults crew.old }) (record { shelf = S.faults shelf.new; input = I.faults input.new; crew = C.faults crew.new })) }
-    ensures causes { IfErr result (MayStop (UsesShelf (Some (told job.entry))) (AsksInput (S.files shelf.old) (Some (told job.entry))) (AsksCrew (S.files shelf.old) (I.left input.old) (Some (told job.entry)))) }
+    ensures outcome { ComesFor (told job.entry) (moment S.Shelf I.Source C.Crew shelf.old input.old crew.old) (moment S.Shelf I.Source C.Crew shelf.new input.new crew.new) result }
+    ensures faults { CountsFor (moment S.Shelf I.Source C.Crew shelf.old input.old crew.old) (moment S.Shelf I.Source C.Crew shelf.new input.new crew.new) result }
+    ensures causes { StopsFor (told job.entry) (moment S.Shelf I.Source C.Crew shelf.old input.old crew.old) result }
     ensures sound { S.IsSound shelf.old → S.IsSound shelf.new }
     ensures lacks { S.IsSound shelf.old → result ≡ Err Stop.ShelfFailed → LacksFile (S.files shelf.old) (Some (told job.entry)) }
     ensures input { (AsksInput (S.files shelf.old) (Some (told job.entry)) → ⊥) → input.new ≡ input.old }
@@ -76,7 +75,7 @@ fn do_job<'a, R: Threads + Wait + Sync, I: Source, O: Sink, S: Keeper, C: Crew>(
     crew: &mut C,
 ) -> u8
     requires { IfSome found (λ job. HasLimits (told job)) }
-    ensures ends { let job = option_map told found.entry in Ends (IsOutcome (work_of C.Crew crew.old) (work_of C.Crew crew.new) (S.files shelf.old) (I.left input.old) job) (PutsBefore job) (UsesShelf job) (AsksInput (S.files shelf.old) job) (AsksCrew (S.files shelf.old) (I.left input.old) job) (record { files = S.files shelf.old; counts = record { shelf = S.faults shelf.old; input = I.faults input.old; crew = C.faults crew.old }; out = record { held = O.held out.old; faults = O.faults out.old } }) (record { files = S.files shelf.new; counts = record { shelf = S.faults shelf.new; input = I.faults input.new; crew = C.faults crew.new }; out = record { held = O.held out.new; faults = O.faults out.new } }) result }
+    ensures ends { EndsFor (option_map told found.entry) (moment S.Shelf I.Source C.Crew shelf.old input.old crew.old) (moment S.Shelf I.Source C.Crew shelf.new input.new crew.new) (sight_of O.Sink out.old) (sight_of O.Sink out.new) result }
     ensures status { IsTrue (is_status result) }
     // Each of these comes only from a fault of its object.
     ensures read_fault { result ≡ 7 → Rose (I.faults input.old) (I.faults input.new) }
@@ -113,7 +112,9 @@ pub fn chimera<R: Threads + Wait + Sync, I: Source, O: Sink, S: Keeper, C: Crew>
     shelf: &mut S,
     crew: &mut C,
 ) -> u8
-    ensures ends { let job = job_by (map string_bytes words.now) in Ends (IsOutcome (work_of C.Crew crew.old) (work_of C.Crew crew.new) (S.files shelf.old) (I.left input.old) job) (PutsBefore job) (UsesShelf job) (AsksInput (S.files shelf.old) job) (AsksCrew (S.files shelf.old) (I.left input.old) job) (record { files = S.files shelf.old; counts = record { shelf = S.faults shelf.old; input = I.faults input.old; crew = C.faults crew.old }; out = record { held = O.held out.old; faults = O.faults out.old } }) (record { files = S.files shelf.new; counts = record { shelf = S.faults shelf.new; input = I.faults input.new; crew = C.faults crew.new }; out = record { held = O.held out.new; faults = O.faults out.new } }) result }
+    ensures ends { EndsFor (job_by (map string_bytes words.now)) (moment S.Shelf I.Source C.Crew shelf.old input.old crew.old) (moment S.Shelf I.Source C.Crew shelf.new input.new crew.new) (sight_of O.Sink out.old) (sight_of O.Sink out.new) result }
+    // What is promised of recordings and replays.
+    ensures headline { Headline (job_by (map string_bytes words.now)) (moment S.Shelf I.Source C.Crew shelf.old input.old crew.old) (moment S.Shelf I.Source C.Crew shelf.new input.new crew.new) (sight_of O.Sink out.old) (sight_of O.Sink out.new) result }
     ensures status { IsTrue (is_status result) }
     // Each of these comes only from a fault of its object.
     ensures read_fault { result ≡ 7 → Rose (I.faults input.old) (I.faults input.new) }

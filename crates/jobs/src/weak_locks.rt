@@ -2,8 +2,8 @@
 
 ghost use Rattle.std.specs.Prelude.{◌≡◌, ◌≤◌, ◌^◌, length, IfErr, IfOk, MatchResult, option_map};
 ghost use Rattle.command_line.specs.declared.answer.Answer.TheVariants as answer;
-ghost use Rattle.jobs.specs.Jobs.{IsWeaken};
 ghost use Rattle.jobs.specs.Listings.{ListsWeakLocks};
+ghost use Rattle.jobs.specs.Readings.{ReadsProfile};
 ghost use Rattle.jobs.specs.Sources.{IsTree};
 ghost use Rattle.jobs.specs.Wants.{LacksEither};
 ghost use Rattle.job_profiles.specs.Profiles.{LacksProfile};
@@ -14,11 +14,11 @@ ghost use Rattle.job_outcomes.specs.Steps.{Comes, Gives};
 
 use crate::sources::{SOURCE_BYTES, compiled};
 use command_line::{Answer, Part};
+use job_outcomes::{Keeper, Outcome, Stop, file};
 use job_profiles::profile_of;
 use job_runs::or_stop;
 use listing::weak_text;
 use lock_sound::Weakened;
-use job_outcomes::{Keeper, Outcome, Stop, file};
 use profiles::Profile;
 use std::alloc::{AllocError, Global};
 
@@ -51,7 +51,7 @@ pub(crate) fn weak_locks<'a, S: Keeper>(
     profile: Option<&str>,
     shelf: &mut S,
 ) -> Result<Outcome<'a>, Stop>
-    ensures outcome { Gives (IsWeaken (S.files shelf.old) source.now (option_map (λ n. n.now) profile.entry)) result }
+    ensures outcome { Gives (ReadsProfile (S.files shelf.old) source.now (option_map (λ n. n.now) profile.entry) ListsWeakLocks) result }
     ensures files { S.files shelf.new ≡ S.files shelf.old }
     ensures faults { MatchResult result (λ _. S.faults shelf.new ≡ S.faults shelf.old) (λ stop. ShelfStops stop (S.faults shelf.old) (S.faults shelf.new)) }
     ensures sound { S.IsSound shelf.old → S.IsSound shelf.new }

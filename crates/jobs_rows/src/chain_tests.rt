@@ -1,8 +1,6 @@
-use crate::checks::{check_files, check_in, holds_parts};
+use crate::checks::{check_log_ends, check_on_log};
 use crate::walked::{CATALOGUE, CATALOGUE_LOG, LOST, TRAPS};
 use samples::logs::{FIRST, SLOTS_3};
-use samples::outside::{Outside, SOUND};
-use samples::shelves::files_of;
 use samples::sources::{COUNTER, HELD};
 use samples::weak_runs::STARTS;
 use std::alloc::Global;
@@ -125,31 +123,14 @@ fn check_chain(
     want: (&str, u8),
 ) -> Result<(), Fail> {
     let [one, other] = events;
-    let words = ["chain", "a", "b", one, other];
-    let mut shelf = files_of(alloc, &[source], log)?;
-    check_in(rt, alloc, &words, &SOUND, &mut shelf, want)?;
-    Ok(holds_parts(rt, alloc, &shelf, "b", log)?)
-}
-
-// A log that is none, one that isn't there, and a sink that fails.
-fn check_ends(rt: &(impl Abort + Threads + Wait + Sync), alloc: Global) -> Result<(), Fail> {
-    let words = ["chain", "a", "b", "1.4", "2.4"];
-    let missing = ["chain", "a", "c", "1.4", "2.4"];
-    check_files(
+    check_on_log(
         rt,
         alloc,
-        &words,
-        &[COUNTER],
-        &["no log"],
-        ("log refused 23 1\n", 4),
-    )?;
-    check_files(rt, alloc, &missing, &[COUNTER], LOST, ("shelf fault\n", 9))?;
-    let outside = Outside {
-        write_fails: &[0],
-        ..SOUND
-    };
-    let mut shelf = files_of(alloc, &[COUNTER], LOST)?;
-    check_in(rt, alloc, &words, &outside, &mut shelf, ("", 8))
+        &["chain", "a", "b", one, other],
+        source,
+        log,
+        want,
+    )
 }
 
 #[test]
@@ -157,7 +138,9 @@ fn tells_what_orders_accesses(rt: HostRuntime) -> Result<(), Fail> {
     for &(source, log, events, text, status) in &ROWS {
         check_chain(&rt, rt.alloc(), source, log, events, (text, status))?;
     }
-    check_ends(&rt, rt.alloc())
+    let words = ["chain", "a", "b", "1.4", "2.4"];
+    let missing = ["chain", "a", "c", "1.4", "2.4"];
+    check_log_ends(&rt, rt.alloc(), &words, &missing, COUNTER, LOST)
 }
 
 #[test]

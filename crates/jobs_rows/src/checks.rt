@@ -1,9 +1,9 @@
 // Calls of the jobs, and what is compared after them.
 use crew::Crew;
-use samples::outside::{Outside, SOUND, crew_of, input_of, owned, repeated, sink_of};
-use samples::shelves::{files_of, joined, shelf_of};
 use jobs::chimera;
 use rr_base::MemShelf;
+use samples::outside::{Outside, SOUND, crew_of, input_of, owned, repeated, sink_of};
+use samples::shelves::{files_of, joined, shelf_of};
 use std::alloc::{AllocError, Global};
 use std::process::Abort;
 use std::sync::Wait;
@@ -109,4 +109,34 @@ pub fn holds_parts(
     let whole = joined(alloc, parts)?;
     holds_bytes(rt, shelf, name, whole.as_slice());
     Ok(())
+}
+
+/// A call with these words on source `a` and log `b`, which stays.
+pub fn check_on_log(
+    rt: &(impl Abort + Threads + Wait + Sync),
+    alloc: Global,
+    words: &[&str],
+    source: &str,
+    log: &[&str],
+    want: (&str, u8),
+) -> Result<(), Fail> {
+    let mut shelf = files_of(alloc, &[source], log)?;
+    check_in(rt, alloc, words, &SOUND, &mut shelf, want)?;
+    Ok(holds_parts(rt, alloc, &shelf, "b", log)?)
+}
+
+/// A log that is none, one that isn't there under the name in `missing`, and a sink that fails.
+pub fn check_log_ends(
+    rt: &(impl Abort + Threads + Wait + Sync),
+    alloc: Global,
+    words: &[&str],
+    missing: &[&str],
+    source: &str,
+    log: &[&str],
+) -> Result<(), Fail> {
+    let refused = ("log refused 23 1\n", 4);
+    check_files(rt, alloc, words, &[source], &["no log"], refused)?;
+    check_files(rt, alloc, missing, &[source], log, ("shelf fault\n", 9))?;
+    let mut shelf = files_of(alloc, &[source], log)?;
+    check(rt, alloc, words, &[0], &mut shelf, ("", 8))
 }

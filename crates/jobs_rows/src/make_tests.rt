@@ -1,7 +1,7 @@
 use crate::checks::{check, check_in, holds_bytes};
+use rr_base::{List, MemShelf};
 use samples::outside::{Outside, SOUND};
 use samples::shelves::shelf_of;
-use rr_base::{List, MemShelf};
 use std::alloc::Global;
 use std::process::Abort;
 use std::sync::Wait;

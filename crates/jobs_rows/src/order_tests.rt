@@ -1,11 +1,11 @@
 use crate::checks::check_in;
 use crate::record_tests::same_log;
+use rr_base::MemShelf;
 use samples::bank::{BANK, BANK_LOG, CHANGES};
 use samples::logs::{RECORDED, SLOTS_3};
 use samples::outside::{Outside, SOUND};
 use samples::shelves::{REPLAY, bank_files, files_of, with_source};
 use samples::sources::{COUNTER, HALVES, HELD_BY_CALLER, ONE_LINE};
-use rr_base::MemShelf;
 use std::alloc::Global;
 use std::process::Abort;
 use std::sync::Wait;

@@ -1,11 +1,11 @@
 use crate::checks::{check_in, holds_bytes, holds_parts};
+use rr_base::{List, MemShelf};
 use samples::bank::BANK;
 use samples::logs::{FIRST, IDLE, SLOTS_1, SLOTS_2, SLOTS_3, SLOTS_8};
 use samples::outside::{Outside, SOUND};
 use samples::shelves::{files_of, push_file};
 use samples::sources::{COUNTER, HELD, HELD_BY_CALLER, MISUSE};
 use samples::{bank, weak_runs};
-use rr_base::{List, MemShelf};
 use std::alloc::{AllocError, Global};
 use std::process::Abort;
 use std::sync::Wait;

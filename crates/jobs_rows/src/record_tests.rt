@@ -1,4 +1,5 @@
 use crate::checks::{check_files, check_in, holds_bytes, holds_parts};
+use rr_base::MemShelf;
 use samples::bank::BANK;
 use samples::logs::{FIRST, IDLE, INPUT_HI, RECORDED, SLOTS_1, SLOTS_2, SLOTS_3, SLOTS_8};
 use samples::outside::{Outside, SOUND, repeated};
@@ -7,7 +8,6 @@ use samples::sources::{
     COUNTER, DIVIDES, ECHOES, HELD_BY_CALLER, MISUSE, NO_POINTER, NONE_LEFT, PASSES, READERS,
     RWLOCK_MISUSE, WAITS,
 };
-use rr_base::MemShelf;
 use std::alloc::Global;
 use std::process::Abort;
 use std::sync::Wait;
@@ -300,6 +300,46 @@ fn writes_the_loads(rt: HostRuntime) -> Result<(), Fail> {
         let words = ["replay", "a", "--reads", "r", "b"];
         check_in(&rt, alloc, &words, &SOUND, &mut shelf, (text, 0))?;
         holds_bytes(&rt, &shelf, "r", loads.as_bytes());
+    }
+    Ok(())
+}
+
+// A source, the crew's first turns for its recording, and what is told of it: both additions count, one is lost, a thread traps.
+static BOTH: [(&str, &[(u8, usize)], &str, u8); 3] = [
+    (COUNTER, &[], "2\n", 0),
+    (COUNTER, &[(0, 40), (1, 3), (2, 3), (1, 1)], "1\n", 0),
+    (DIVIDES, &[], "trap 1 thread 1 line 5\n", 3),
+];
+
+// A recording and the replay of its log tell the same, and read the same values.
+fn check_both(
+    rt: &(impl Abort + Threads + Wait + Sync),
+    alloc: Global,
+    source: &str,
+    order: &[(u8, usize)],
+    want: (&str, u8),
+) -> Result<(), Fail> {
+    let mut shelf = with_source(alloc, &[source])?;
+    let outside = Outside {
+        order,
+        turns: 100_000,
+        ..SOUND
+    };
+    let record = ["record", "a", "l", "--reads", "r"];
+    check_in(rt, alloc, &record, &outside, &mut shelf, want)?;
+    let replay = ["replay", "a", "l", "--reads", "q"];
+    check_in(rt, alloc, &replay, &SOUND, &mut shelf, want)?;
+    let recorded = shelf.content("r").map(|held| held.as_slice());
+    let replayed = shelf.content("q").map(|held| held.as_slice());
+    assert!(rt; recorded.is_some_and(|reads| !reads.is_empty()));
+    assert_eq!(rt; replayed, recorded);
+    Ok(())
+}
+
+#[test]
+fn replays_what_was_read(rt: HostRuntime) -> Result<(), Fail> {
+    for &(source, order, text, status) in &BOTH {
+        check_both(&rt, rt.alloc(), source, order, (text, status))?;
     }
     Ok(())
 }

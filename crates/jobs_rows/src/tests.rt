@@ -1,10 +1,10 @@
 use crate::checks::{check, check_files, check_large};
+use rr_base::Bytes;
 use samples::bank::{BANK, BANK_LOG};
 use samples::logs::{FIRST, IDLE, SLOTS_8};
 use samples::outside::push_times;
 use samples::runs::{MORE_RUNS, RUNS};
 use samples::shelves::{REPLAY, files_of, joined, push_part, shelf_of};
-use rr_base::Bytes;
 use std::alloc::{AllocError, Global};
 use std::process::Abort;
 use std::sync::Wait;

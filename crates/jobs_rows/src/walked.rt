@@ -1,9 +1,7 @@
 // Logs that the tests of walks share, and a source with read-write locks.
 
 use samples::logs::{FIRST, SLOTS_2, SLOTS_3};
-use samples::weak_runs::{
-    BEGIN, END_2, JOIN_1, LOAD_1, LOAD_2, PRINT, STARTS, STORE_1, STORE_2,
-};
+use samples::weak_runs::{BEGIN, END_2, JOIN_1, LOAD_1, LOAD_2, PRINT, STARTS, STORE_1, STORE_2};
 
 /// A writer and two readers of a table under read-write locks, and a count that the readers raise under one held for reading.
 pub const CATALOGUE: &str = "#include <pthread.h>

@@ -1,14 +1,8 @@
-use crate::checks::{check_files, check_in, holds_parts};
+use crate::checks::{check_log_ends, check_on_log};
 use crate::walked::{CATALOGUE, CATALOGUE_LOG, LOST, TRAPS};
 use samples::logs::{FIRST, SLOTS_3};
-use samples::outside::{Outside, SOUND};
-use samples::shelves::files_of;
 use samples::sources::{COUNTER, HELD};
-use std::alloc::Global;
-use std::process::Abort;
-use std::sync::Wait;
 use std::test::Fail;
-use std::thread::Threads;
 
 // What is asked of the accesses of the catalogue, and what is told.
 static CATALOGUE_ROWS: [(&str, &str, u8); 21] = [
@@ -80,56 +74,25 @@ static ROWS: [(&str, &[&str], &str, &str, u8); 8] = [
     ("int x int y;", LOST, "any", "source refused 7 1 7\n", 2),
 ];
 
-fn check_watch(
-    rt: &(impl Abort + Threads + Wait + Sync),
-    alloc: Global,
-    source: &str,
-    log: &[&str],
-    predicate: &str,
-    want: (&str, u8),
-) -> Result<(), Fail> {
-    let words = ["watch", "a", "b", predicate];
-    let mut shelf = files_of(alloc, &[source], log)?;
-    check_in(rt, alloc, &words, &SOUND, &mut shelf, want)?;
-    Ok(holds_parts(rt, alloc, &shelf, "b", log)?)
-}
-
-// A log that is none, one that isn't there, and a sink that fails.
-fn check_ends(rt: &(impl Abort + Threads + Wait + Sync), alloc: Global) -> Result<(), Fail> {
-    let words = ["watch", "a", "b", "any"];
-    let missing = ["watch", "a", "c", "any"];
-    check_files(
-        rt,
-        alloc,
-        &words,
-        &[COUNTER],
-        &["no log"],
-        ("log refused 23 1\n", 4),
-    )?;
-    check_files(rt, alloc, &missing, &[COUNTER], LOST, ("shelf fault\n", 9))?;
-    let outside = Outside {
-        write_fails: &[0],
-        ..SOUND
-    };
-    let mut shelf = files_of(alloc, &[COUNTER], LOST)?;
-    check_in(rt, alloc, &words, &outside, &mut shelf, ("", 8))
-}
-
 #[test]
 fn finds_first_accesses(rt: HostRuntime) -> Result<(), Fail> {
+    let alloc = rt.alloc();
     for &(source, log, predicate, text, status) in &ROWS {
-        check_watch(&rt, rt.alloc(), source, log, predicate, (text, status))?;
+        let words = ["watch", "a", "b", predicate];
+        check_on_log(&rt, alloc, &words, source, log, (text, status))?;
     }
     for &(predicate, text, status) in &CATALOGUE_ROWS {
+        let words = ["watch", "a", "b", predicate];
         let want = (text, status);
-        check_watch(
-            &rt,
-            rt.alloc(),
-            CATALOGUE,
-            &[CATALOGUE_LOG],
-            predicate,
-            want,
-        )?;
+        check_on_log(&rt, alloc, &words, CATALOGUE, &[CATALOGUE_LOG], want)?;
     }
-    check_ends(&rt, rt.alloc())
+    let words = ["watch", "a", "b", "any"];
+    check_log_ends(
+        &rt,
+        alloc,
+        &words,
+        &["watch", "a", "c", "any"],
+        COUNTER,
+        LOST,
+    )
 }

@@ -10,7 +10,7 @@ pub returns-in-Ok-clause-outcome : goal.returns-in-Ok-clause-outcome
 returns-in-Ok-clause-outcome g c =
     let w = c.in-Ok.weakened in
     let h = c.in-Ok.ensures in
-    recorded_gives _ _ c.args.source.now (g.I.Source.left c.args.input.now) (record_told c.args.job.now) c.args.profile w c.requires.limits h c.recorded_code.result
+    recorded_gives _ _ c.args.source.now (g.I.Source.left c.args.input.now) (record_told c.args.job.now) c.args.profile w c.requires.limits c.requires.names h c.recorded_code.result
     (λ s labels end within ran ended. let t = c.law_text_log.ensures c.args.source.now h.0 w s labels end c.requires.short h.1 h.2.is h.2.of within ran ended in record { runs = t.1; prints = t.2; ordered = c.law_ordered_walk.ensures w s (log_of end) end h.2.is within t.0 })
     c.recorded_code.ensures.outcome
 

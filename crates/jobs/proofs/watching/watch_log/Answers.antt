@@ -1,19 +1,20 @@
-use Rattle.std.proofs.Common.{Ok, Err, subst}
-use Rattle.std.proofs.lemmas.Result.{err_from_is_err_and}
-use Rattle.command_line.specs.declared.answer.Part.TheVariants as part
-use Rattle.job_outcomes.specs.Steps.{Finds, IsFile}
+use Rattle.walk_hits.specs.Telling.{TellsHit}
 use Rattle.jobs.specs.Watchings.{TellsLog}
-use Rattle.job_runs.specs.Logs.{IsLogIn}
-use Rattle.jobs.proofs.OfLog.{log_gives, log_stops}
+use Rattle.std.proofs.lemmas.Result.{err_from_is_err_and}
+use Rattle.jobs.proofs.OfLog.{followed_gives, followed_stops, no_fault}
 use Rattle.jobs.proofs.watching.watch_log.Goals as goal
 
-pub returns-in_err-log-clause-outcome : goal.returns-in_err-log-clause-outcome
-returns-in_err-log-clause-outcome g c =
-    let p = err_from_is_err_and c.from_residual-in_err-log.result c.from_residual-in_err-log.ensures.1 in
-    let files = g.S.Shelf.files c.args.shelf.now in
-    rw (p.1, p.2) (log_stops files c.args.source.now c.args.log.now (λ view. TellsLog view c.args.formula) c.in_ok-text.text c.in_ok-bytes.bytes c.in_err-log.field-0.0 c.in_ok-text.ensures.content (subst (λ f. IsFile f 536870912 part.Log c.args.log.now (Ok c.in_ok-bytes.bytes)) c.in_ok-text.ensures.files c.in_ok-bytes.ensures.content) (subst (λ b. Finds (IsLogIn b) (Err c.in_err-log.field-0.0)) c.as_slice.ensures c.in_err-log.ensures.log))
+pub returns-in_err-found-clause-outcome : goal.returns-in_err-found-clause-outcome
+returns-in_err-found-clause-outcome g c =
+    let p = err_from_is_err_and c.from_residual.result c.from_residual.ensures.1 in
+    rw (p.1, p.2) (followed_stops (g.S.Shelf.files c.args.shelf.now) c.args.source.now c.args.log.now (λ view. TellsLog view c.args.formula) c.in_err-found.field-0.0 c.in_err-found.ensures.found)
 
 pub returns-clause-outcome : goal.returns-clause-outcome
 returns-clause-outcome g c =
-    let files = g.S.Shelf.files c.args.shelf.now in
-    log_gives files c.args.source.now c.args.log.now (λ view. TellsLog view c.args.formula) c.in_ok-text.text c.in_ok-bytes.bytes c.in_ok-log.log c.watched.result c.in_ok-text.ensures.content (subst (λ f. IsFile f 536870912 part.Log c.args.log.now (Ok c.in_ok-bytes.bytes)) c.in_ok-text.ensures.files c.in_ok-bytes.ensures.content) (subst (λ b. IsLogIn b (Ok c.in_ok-log.log)) c.as_slice.ensures c.in_ok-log.ensures.log) c.watched.ensures.outcome
+    let w = c.in_ok-found.found.0 in
+    let log = c.in_ok-found.found.1 in
+    followed_gives (g.S.Shelf.files c.args.shelf.now) c.args.source.now c.args.log.now (λ view. TellsLog view c.args.formula) w log (TellsHit w.weak log.setup log.entries c.args.formula)
+    c.in_ok-found.ensures.found (λ os o is walks tells. record { found = w; is = is; source = walks; tells = tells }) c.told.result c.or_stop.result c.told.ensures c.or_stop.ensures
+
+pub returns-clause-faults : goal.returns-clause-faults
+returns-clause-faults g c = no_fault c.or_stop.result _ _ _ c.in_ok-found.ensures.faults c.or_stop.ensures
