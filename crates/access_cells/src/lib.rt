@@ -1,7 +1,7 @@
-//! Which cells the next actions of threads name, in every run of the machine. It stands on `points_to_sound`. It promises that
-//! each is a cell by which threads hand over arguments and results, or one to which the register of an instruction's access
-//! points; that the machine has all cells and objects which next actions name; and that no two threads race for a
-//! hand-off cell.
+//! Which cells the next actions of threads name, in every run of the machine.
+//!
+//! Its contract: `law_access_cells`, `law_hand_offs_apart`, `law_conflict_cells`.
+//! It knows nothing of locks.
 #![tactic(auto)]
 
 mod laws;

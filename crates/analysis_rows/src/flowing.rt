@@ -2,7 +2,6 @@ ghost use Rattle.std.specs.Prelude.{◌≡◌, true, IfOk};
 ghost use Rattle.lockset_flow.specs.Flow.{all_sized};
 
 use crate::made::{READS_FORMAL, WRITES_FORMAL, add, library};
-use word_semantics::LibraryCall;
 use facts::{Held, LockPath, Minus, RelLocks, argument_names};
 use flow_code::{Act, Code, Function, Instr, is_valid};
 use lockset_flow::{FlowFacts, flow_function};
@@ -10,6 +9,7 @@ use rr_base::{Bytes, List};
 use std::alloc::{AllocError, Global};
 use std::test::Fail;
 use sync_objects::Mode;
+use word_semantics::LibraryCall;
 
 // The lock to which the first formal points.
 const FIRST: LockPath = LockPath::Formal {

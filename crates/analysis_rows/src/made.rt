@@ -1,10 +1,10 @@
 //! Instructions and locks written by hand.
-use word_semantics::LibraryCall;
 use facts::{Held, LockPath};
 use flow_code::{Act, Instr};
 use rr_base::{List, Position};
 use std::alloc::{AllocError, Global};
 use sync_objects::Mode;
+use word_semantics::LibraryCall;
 
 /// Where each instruction and site stands.
 pub const START: Position = Position { line: 1, column: 1 };

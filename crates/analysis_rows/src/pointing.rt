@@ -3,7 +3,6 @@ ghost use Rattle.facts.specs.PointsTo as spec;
 ghost use Rattle.facts.specs.PointsTo.{IsPointsTo};
 
 use crate::made::{START, add};
-use word_semantics::LibraryCall;
 use facts::{Node, PointsTo};
 use flow_code::{Act, Code, Function, Instr, Work, is_valid};
 use points_to::solve;
@@ -11,6 +10,7 @@ use rr_base::{CellKind, Layout, List, Place, PtrWord, Site};
 use std::alloc::{AllocError, Global};
 use std::process::Abort;
 use std::test::Fail;
+use word_semantics::LibraryCall;
 
 // An instruction; the numbers are registers.
 #[derive(Clone, Copy, Debug)]

@@ -2,7 +2,6 @@ ghost use Rattle.std.specs.Prelude.{◌≡◌, ℕ, [], ◌<◌, length, slice_g
 ghost use Rattle.flow_code.specs.declared.code.Function.{Function};
 
 use crate::made::{READS_FORMAL, WRITES_FORMAL, instrs, library};
-use word_semantics::LibraryCall;
 use facts::{AccessAt, Guarded, Held, LockPath, Minus, Pair, PointsTo, RelLocks, Summary};
 use flow_code::{Act, Code, Function};
 use race_pairs::pairs;
@@ -11,6 +10,7 @@ use std::alloc::{AllocError, Global};
 use std::process::Abort;
 use std::test::Fail;
 use sync_objects::Mode;
+use word_semantics::LibraryCall;
 
 const INC: u32 = 0;
 
@@ -259,7 +259,7 @@ static ROWS: [Row; 5] = [
     },
 ];
 
-// More of them, in a table of its own, since a function that names one pays for its rows.
+// More of them, in a table of its own, since the proof of a function grows with the rows of each table that it names.
 static MORE_ROWS: [Row; 8] = [
     // Of one lock, those who read under it may meet, and who writes under it is alone.
     Row {

@@ -1,7 +1,6 @@
 use crate::made::{
     READS_FIRST_CELL, READS_FORMAL, START, WRITES_FIRST_CELL, WRITES_FORMAL, add, library,
 };
-use word_semantics::LibraryCall;
 use facts::{AccessAt, Guarded, Held, LockPath, Minus, Pair, RelLocks, Summary};
 use flow_code::{Act, Code, Function, Instr, Work, is_valid};
 use lockset_summary::summaries;
@@ -11,6 +10,7 @@ use rr_base::{CellKind, Layout, List, Place, PtrWord, Site};
 use std::alloc::{AllocError, Global};
 use std::process::Abort;
 use std::test::Fail;
+use word_semantics::LibraryCall;
 
 // The addresses of the globals: a lock, and two numbers.
 const LOCK: u64 = (1 << 54) + (1 << 16);

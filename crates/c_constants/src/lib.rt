@@ -1,5 +1,9 @@
-//! Which expressions of a C source are constant, the constants of the library, and the value of an operator by those of its
-//! operands. It stands on `c_types`.
+//! Which expressions of a C source are constant, the constants of the library, and the value of an operator by those of
+//! its operands.
+//!
+//! Its contract: `is_constant`, `constant_named`, `operation_value`, `prefix_value`, `chosen_value`: what their
+//! definitions give.
+//! It knows nothing of names, places.
 #![tactic(auto)]
 
 mod constants;

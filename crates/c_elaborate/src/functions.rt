@@ -13,7 +13,6 @@ ghost use Rattle.c_statements.specs.Statements as spec_statements;
 ghost use Rattle.c_elaborate.specs.Functions as spec;
 ghost use Rattle.c_operators.specs.Views.{frame_in, source_in};
 
-use core_tree::{CoreFunction, Statement};
 use c_frames::{Local, frame_of, function_by, kept_in, pass_formals};
 use c_locals::Marks;
 use c_names::Table;
@@ -22,6 +21,7 @@ use c_operators::{Frame, Source};
 use c_statements::{block, push_parts};
 use c_tree::{Name, Param, Part};
 use c_types::StarredType;
+use core_tree::{CoreFunction, Statement};
 use rr_base::List;
 use std::alloc::{AllocError, Global};
 

@@ -1,5 +1,8 @@
-//! What a C source does, as a core tree: from a source whose types and names break no rule to the tree in which they are
-//! settled. It stands on `c_sites`, `core_tree`, `c_operators`, `c_values`, `c_globals`, `c_frames` and `c_statements`.
+//! What a C source does, as a core tree: from a source whose types and names break no rule to the tree in which they
+//! are settled.
+//!
+//! Its contract: `elaborate`: the core tree that its definition gives.
+//! It knows nothing of instructions.
 #![tactic(auto)]
 
 mod functions;

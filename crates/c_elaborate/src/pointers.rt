@@ -4,11 +4,11 @@ ghost use Rattle.c_names.specs.Table.{known_of, texts_of};
 ghost use Rattle.core_tree.specs.View.{pointer_of};
 ghost use Rattle.c_elaborate.specs.Pointers as spec;
 
-use core_tree::PointerType as CorePointer;
 use c_locals::Taken;
 use c_names::Table;
 use c_types::{Meaning, Names, PointerType, Wanted, is_main};
 use c_values::{gives_pointer, is_pointer_wanted};
+use core_tree::PointerType as CorePointer;
 use rr_base::{List, sum};
 use std::alloc::{AllocError, Global};
 

@@ -22,7 +22,6 @@ ghost use Rattle.c_elaborate.specs.Whole as spec;
 
 use crate::functions::definition;
 use crate::pointers::source_pointers;
-use core_tree::{Core, CoreFunction, PointerType};
 use c_globals::{global_bases, global_kinds, globals_in, push_objects};
 use c_locals::{Marks, Taken, addressed_in, taken_in};
 use c_names::{Table, listed, signature_of};
@@ -32,6 +31,7 @@ use c_sites::{Typed, kinds_of_structs};
 use c_spots::spots_in;
 use c_tree::{Body, External, Member, Name, Param, Params, Part, Program, Specifier};
 use c_types::StarredType;
+use core_tree::{Core, CoreFunction, PointerType};
 use rr_base::{CellKind, List, Site};
 use std::alloc::{AllocError, Global};
 

@@ -13,7 +13,6 @@ ghost use Rattle.c_frames.specs.Locals.{parts_locals};
 ghost use Rattle.c_operators.specs.Views.{frame_in, source_in};
 
 use crate::local::{Local, push_parts_locals};
-use core_tree::{Arrival, CoreFunction, Statement};
 use c_locals::{Marks, is_kept_formal};
 use c_names::{Table, param_name};
 use c_numbers::NumberTable;
@@ -23,6 +22,7 @@ use c_rules::name_place;
 use c_tree::{Name, Param, Part};
 use c_types::StarredType;
 use c_values::gives_pointer;
+use core_tree::{Arrival, CoreFunction, Statement};
 use rr_base::{Bytes, List, Position, Site, length_sum, sum};
 use std::alloc::{AllocError, Global};
 

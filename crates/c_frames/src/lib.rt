@@ -1,5 +1,8 @@
-//! The formals and locals of a function of a C source: which there are, where each is kept, and what the function's core tree says
-//! of them. It stands on `c_locals`, `c_programs`, `core_tree`, `c_operators` and `c_values`.
+//! The formals and locals of a function of a C source: which there are, where each is kept, and what the function's
+//! core tree says of them.
+//!
+//! Its contract: `kept_in`, `frame_of`, `pass_formals`, `function_by`: what their definitions give.
+//! It knows nothing of statements' core trees.
 #![tactic(auto)]
 
 mod frames;

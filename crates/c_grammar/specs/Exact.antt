@@ -1,4 +1,4 @@
--- What it is to parse: the one tree that the grammar has for the tokens, or the first token that ends every hope of one.
+-- What it is to parse: the one tree that the grammar has for the tokens, or the first token that fits none.
 use Rattle.std.specs.Prelude.{◌≡◌, ℕ, ◌<◌, List, [], ◌∷◌, ◌++◌}
 use Rattle.c_tree.specs.Tree.{Outer}
 use Rattle.c_grammar.specs.Marks.{Lexeme, Mark, erase, AllLow}

@@ -10,7 +10,7 @@ pub fn law_one_tree()
 {}
 
 /// The parser's rules give the one tree exactly where its levels are within the limit, and else the first token that
-/// ends every hope of one.
+/// fits none.
 pub fn law_exact()
     ensures { (limit : ℕ) (ts : List Lexeme) → IsExact limit ts (parsed limit ts) }
 {}

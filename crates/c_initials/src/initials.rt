@@ -10,12 +10,12 @@ ghost use Rattle.c_values.specs.Expressions.{kind_of_type};
 ghost use Rattle.c_initials.specs.Initials as spec;
 ghost use Rattle.c_operators.specs.Views.{context_of, source_in};
 
-use core_tree::{Statement, Value};
 use c_operators::{Context, Home, Source, WordKind, make};
 use c_programs::{part_at, ref_of, value_target};
 use c_tree::Initial;
 use c_types::{ObjectType, Target, TypeRef, put_layered};
 use c_values::{kind_of_type, wanted};
+use core_tree::{Statement, Value};
 use rr_base::{CellKind, List, Position, sum};
 use std::alloc::{AllocError, Global};
 

@@ -1,5 +1,7 @@
-//! How a local of a C source begins that is declared with first values, and which cells an object of a type has. It stands
-//! on `core_tree`, `c_operators` and `c_values`.
+//! How a local of a C source begins that is declared with first values, and which cells an object of a type has.
+//!
+//! Its contract: `push_begun`, `kinds_of_some`: what their definitions give.
+//! It knows nothing of globals, statements, functions.
 #![tactic(auto)]
 
 mod initials;

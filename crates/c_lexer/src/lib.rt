@@ -1,6 +1,7 @@
-//! The tokens of a C source (C99 6.4) in this project's profile. It stands on `rr_base` and the kit's `indexmap`.
-//! It promises that `tokens` gives exactly the tokens of a text, each with its place and span, or else the first
-//! fault in the text at its place.
+//! The tokens of a C source (C99 6.4) in this project's profile.
+//!
+//! Its contract: `tokens` is exactly the tokens of the text, or the first fault at its place.
+//! It knows nothing of grammar.
 #![tactic(auto)]
 
 mod cut;

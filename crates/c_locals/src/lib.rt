@@ -1,6 +1,10 @@
-//! The locals and formals of a C source, numbered in the order of the text: which names stand for which, and to which of
-//! them `&` is applied. And which objects are kept in cells by their types, the functions that threads start with, and
-//! those whose names stand as values. It stands on `c_names` and `c_numbers`.
+//! The locals and formals of a C source, numbered in the order of the text: which names stand for which, and to which
+//! of them `&` is applied. And which objects are kept in cells by their types, the functions that threads start with,
+//! and those whose names stand as values.
+//!
+//! Its contract: `addressed_in`, `roots_of`, `taken_in`: those of a source; `is_kept_declared`, `is_kept_formal`: what
+//! their definitions give.
+//! It knows nothing of the sites of a source.
 #![tactic(auto)]
 
 mod addresses;

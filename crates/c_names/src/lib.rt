@@ -1,5 +1,9 @@
-//! The names of a C source: the table of those that are declared so far, the parameters that a function lists, the types
-//! of functions and of pointers to them, and the name that a thread is started with. It stands on `c_types`.
+//! The names of a C source: the table of those that are declared so far, the parameters that a function lists, the
+//! types of functions and of pointers to them, and the name that a thread is started with.
+//!
+//! Its contract: `Table` is the scopes of its definition (`specs/Table.antt`); `put_text`, `listed`, `third_name`: what
+//! their definitions give.
+//! It knows nothing of which rules a source breaks.
 #![tactic(auto)]
 
 mod params;

@@ -7,8 +7,8 @@ ghost use Rattle.c_operators.specs.Views.{denoted_of, part_of};
 
 use crate::constant::Constant;
 use crate::make;
-use core_tree::Value;
 use c_types::{Operand, Standing, are_functions, are_whole, is_array};
+use core_tree::Value;
 use rr_base::Position;
 use std::alloc::{AllocError, Global};
 

@@ -1,5 +1,8 @@
-//! What the operators of a C source make of their operands, as core trees, and what is known where an expression stands. It
-//! stands on `c_constants`, `c_names`, `c_numbers` and `core_tree`.
+//! What the operators of a C source make of their operands, as core trees, and what is known where an expression
+//! stands.
+//!
+//! Its contract: `binary`, `prefix`, `assigned` and the others, `Context`, `Constant`: what their definitions give.
+//! It knows nothing of what an expression is.
 #![tactic(auto)]
 
 mod commas;

@@ -3,10 +3,10 @@ ghost use Rattle.std.specs.Prelude.{◌≡◌, IfOk, map};
 ghost use Rattle.core_tree.specs.Core as core;
 ghost use Rattle.core_tree.specs.View.{exp_of};
 
-use word_semantics::{BinaryOp, LibraryCall};
 use core_tree::{Assignment, Call, Change, Choice, Operation, Simple, UnaryOp, Value};
 use rr_base::{List, Position, PtrWord};
 use std::alloc::{AllocError, Global};
+use word_semantics::{BinaryOp, LibraryCall};
 
 /// A word in a box of its own.
 pub fn boxed(alloc: Global, value: Value) -> Result<Box<Value>, AllocError>

@@ -10,12 +10,12 @@ ghost use Rattle.c_operators.specs.Views.{denoted_of, part_of, source_in};
 use crate::context::Source;
 use crate::denoted::{Denoted, Part, WordKind, is_pointing};
 use crate::make;
-use word_semantics::BinaryOp as FlowOp;
-use core_tree::{Change, UnaryOp, Value};
 use c_tree::{AssignOp, BinaryOp, PrefixOp};
 use c_types::{Operand, are_whole};
+use core_tree::{Change, UnaryOp, Value};
 use rr_base::Position;
 use std::alloc::{AllocError, Global};
+use word_semantics::BinaryOp as FlowOp;
 
 /// The operator on two words. `&&` and `||` are none.
 fn flow_operator(op: BinaryOp) -> FlowOp

@@ -1,6 +1,8 @@
 //! What the reader of a C source goes by at each token: the next token as its rule takes it, the names of types, how
-//! declarators begin, and trees made of smaller ones. It stands on `rr_base`, `c_lexer`, `c_tree` and `c_grammar`.
-//! It promises that what is taken is what the rule takes, and its lemmas say of each phrase that it is read by its rule.
+//! declarators begin, and trees made of smaller ones.
+//!
+//! Its contract: each function takes what its rule takes (`specs/Gives.antt`).
+//! It knows nothing of which phrase is read.
 #![tactic(auto)]
 
 pub mod head;

@@ -1,5 +1,7 @@
-//! What declarations, statements and functions of a C source declare, and the first rule that each breaks. It stands on
-//! `c_rules` and `c_names`.
+//! What declarations, statements and functions of a C source declare, and the first rule that each breaks.
+//!
+//! Its contract: each `note_..` notes the first fault of its piece.
+//! It knows nothing of which objects are kept in cells.
 #![tactic(auto)]
 
 mod declarators;

@@ -1,5 +1,7 @@
-//! What each expression of a C source is at its place, the first rule that it breaks, and the values of constants. It
-//! stands on `c_types` and `c_constants`.
+//! What each expression of a C source is at its place, the first rule that it breaks, and the values of constants.
+//!
+//! Its contract: `judge`: what an expression is, and its first fault.
+//! It knows nothing of how names are kept.
 #![tactic(auto)]
 
 mod blame;

@@ -1,5 +1,8 @@
-//! A checked C source: the first rule that it breaks, or its objects with their layouts, and its functions. It stands on
-//! `c_spots` and `number_text`.
+//! A checked C source: the first rule that it breaks, or its objects with their layouts, and its functions.
+//!
+//! Its contract: `check`: the program, which breaks no rule, with its sites and functions; or the first fault in its
+//! text.
+//! It knows nothing of how a tree is read, what its code is.
 #![tactic(auto)]
 
 mod checking;

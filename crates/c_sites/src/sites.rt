@@ -20,8 +20,7 @@ use c_types::{
     FaultKind, Found, MAX_CELLS, Names, ObjectType, TypeRef, cells_of, cells_of_structs,
     element_of, layout_of_type, note,
 };
-use rr_base::push_numbered;
-use rr_base::{Bytes, CellKind, Layout, List, Position, Site};
+use rr_base::{Bytes, CellKind, Layout, List, Position, Site, push_numbered};
 use std::alloc::{AllocError, Global};
 
 fn with_place(mut text: Bytes, at: Position) -> Result<Bytes, AllocError>

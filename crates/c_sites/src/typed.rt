@@ -62,15 +62,6 @@ impl Typed {
         &self.functions
     }
 
-    /// The tree of the source alone.
-    pub fn into_program(self) -> Program
-        ensures value { result ≡ program_in self }
-        ensures sound { first_fault (program_of result) ≡ None }
-    {
-        let Typed { program, .. } = self;
-        program
-    }
-
     /// The sites alone.
     pub fn into_sites(self) -> List<Site>
         ensures value { result ≡ sites_in self }

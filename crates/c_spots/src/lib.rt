@@ -1,5 +1,8 @@
 //! What has cells of its own in a C source, in the order of the text: each global, each local or formal that is kept in
-//! cells, each `malloc`. It stands on `c_programs` and `c_locals`.
+//! cells, each `malloc`.
+//!
+//! Its contract: `spots_in`: those of a source, in the order of the text, and what is declared at its end.
+//! It knows nothing of the sites of a source and their layouts, which rules it breaks.
 #![tactic(auto)]
 
 mod allocations;

@@ -1,5 +1,7 @@
-//! What a statement of a C source does, as a core tree. It stands on `c_locals`, `core_tree`, `c_operators`, `c_values` and
-//! `c_initials`.
+//! What a statement of a C source does, as a core tree.
+//!
+//! Its contract: `push_parts`, `block`: what their definitions give.
+//! It knows nothing of functions, where locals are kept.
 #![tactic(auto)]
 
 mod make;

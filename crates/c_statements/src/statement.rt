@@ -19,7 +19,6 @@ ghost use Rattle.c_names.specs.Sources.{declared_by};
 ghost use Rattle.c_numbers.specs.Numbered.{following};
 
 use crate::make::{self, ForHead};
-use core_tree::{Statement, Value};
 use c_initials::push_begun;
 use c_names::{Table, declared_name};
 use c_numbers::NumberTable;
@@ -28,6 +27,7 @@ use c_programs::{copy_of, declare_object, declared_type};
 use c_tree::{Declaration, Declarator, Expr, ForStart, Initial, Item, Part, Specifier, Stmt};
 use c_types::Target;
 use c_values::{value, wanted};
+use core_tree::{Statement, Value};
 use rr_base::{List, Position};
 use std::alloc::{AllocError, Global};
 

@@ -1,5 +1,7 @@
-//! The syntax tree of a C source in this project's profile. It stands on `rr_base`; `c_print` tells
-//! what a tree prints to.
+//! The syntax tree of a C source in this project's profile.
+//!
+//! Its contract: each node stands at a `Position`; `specs/View.antt` is its plain tree.
+//! It knows nothing of tokens.
 #![tactic(auto)]
 
 mod ctype;

@@ -1,5 +1,8 @@
 //! The types of a C source in this project's profile: their cells, the functions of the library, what names mean, and
-//! what each operator makes of its operands. It stands on `c_tree`.
+//! what each operator makes of its operands.
+//!
+//! Its contract: `layout_of_type`: size, element size and kinds of cells of a type.
+//! It knows nothing of which rules a source breaks.
 #![tactic(auto)]
 
 mod cells;

@@ -10,14 +10,14 @@ ghost use Rattle.core_tree.specs.View.{exp_of};
 ghost use Rattle.c_operators.specs.Views.{part_of};
 ghost use Rattle.c_values.specs.Calls as spec;
 
-use word_semantics::{LibraryCall, Piece};
-use core_tree::Value;
 use c_names::{Table, third_name};
 use c_operators::{Part, WordKind, function_counted, make, pointer_counted};
 use c_tree::Expr;
 use c_types::{Inside, LibraryName, Names, Operand, Signature, StarredType, TypeRef, Wanted};
+use core_tree::Value;
 use rr_base::{List, Position};
 use std::alloc::{AllocError, Global};
+use word_semantics::{LibraryCall, Piece};
 
 /// The bytes, each as a piece.
 fn bytes_pieces(alloc: Global, text: &[u8]) -> Result<List<Piece>, AllocError>

@@ -25,14 +25,14 @@ use crate::parts::{
     assignment, call_denoted, casting, changing, choice, element, member_in_part, member_through,
     one_more, operation, prefixing, sequence, stepping,
 };
-use word_semantics::BinaryOp as FlowOp;
-use core_tree::Value;
 use c_operators::{Context, Part, WordKind, joined, push_last};
 use c_rules::{call_standing, fits_wanted, format_of, given_by_call, let_go, own_place, wants_of};
 use c_tree::{AssignOp, BinaryOp, CType, Expr, Name, PrefixOp};
 use c_types::{Names, Standing, Target, Wants, assigned_target, cast_target, type_named};
+use core_tree::Value;
 use rr_base::{List, Position};
 use std::alloc::{AllocError, Global};
+use word_semantics::BinaryOp as FlowOp;
 
 /// The place of an expression.
 fn place_of(e: &Expr) -> Position

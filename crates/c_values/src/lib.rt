@@ -1,4 +1,8 @@
-//! What an expression of a C source does, as a core tree. It stands on `c_rules`, `core_tree` and `c_operators`.
+//! What an expression of a C source does, as a core tree.
+//!
+//! Its contract: `value`, `wanted`: the core tree that its definition gives; `law_commas`: expressions with commas
+//! between them go one after another.
+//! It knows nothing of statements, functions.
 #![tactic(auto)]
 
 mod calls;

@@ -22,8 +22,6 @@ ghost use Rattle.c_values.specs.Tails as tails;
 
 use crate::calls::{function_called, library_called, pointer_called};
 use crate::leaves::variable;
-use word_semantics::BinaryOp as FlowOp;
-use core_tree::Value;
 use c_operators::{
     Constant, Context, Denoted, Part, WordKind, arrow, assigned, binary, cast, conditional, index,
     is_pointing, make, member, prefix, site_at, stepped,
@@ -35,8 +33,10 @@ use c_types::{
     conditional_standing, index_standing, library_named, member_standing, pointed_struct,
     prefix_standing, struct_of, type_function, type_named,
 };
+use core_tree::Value;
 use rr_base::{List, Position};
 use std::alloc::{AllocError, Global};
+use word_semantics::BinaryOp as FlowOp;
 
 /// What is constant is its value.
 fn folded(

@@ -4,11 +4,10 @@ ghost use Rattle.core_tree.specs.Core.{register as register_of};
 ghost use Rattle.core_tree.specs.View.{exp_of, stmt_of, function_of, pointer_of};
 ghost use Rattle.call_targets.specs.Resolved as spec;
 
-use word_semantics::BinaryOp;
 use core_tree::{Call, CoreFunction, Operation, PointerType, Simple, Statement, Value};
-use rr_base::push_numbered;
-use rr_base::{Bytes, List, Position, sum};
+use rr_base::{Bytes, List, Position, push_numbered, sum};
 use std::alloc::{AllocError, Global};
+use word_semantics::BinaryOp;
 
 /// The word of a formal.
 fn register(number: u32, pointer: bool, at: Position) -> Value

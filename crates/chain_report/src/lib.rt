@@ -1,7 +1,10 @@
-//! Why one access of a recorded run came before another: a chain of operations, each of which passes its object to the next. It
-//! stands on `lock_ownership`, `lowering_simulation`, `happens_before` and `walk_accesses`. It promises that `find` gives the lowest chain between
-//! any two conflicting accesses of a walk on weakened code, that `is_chain` accepts it, and that what `is_chain` accepts orders the
-//! two accesses.
+//! Why one access of a recorded run came before another: a chain of operations, each of which passes its object to the
+//! next.
+//!
+//! Its contract: `find`: the lowest chain between two conflicting accesses of a walk on weakened code, which always
+//! have one; `is_chain`: exactly the chains of its definition (`specs/Chains.antt`), and each of them orders the two
+//! accesses.
+//! It knows nothing of files, texts of logs, words of commands.
 #![tactic(auto)]
 
 mod checker;

@@ -8,7 +8,7 @@ pub record Sight : Type 0 where
   pub held : Option (List ℕ)
   pub faults : ℕ
 
--- the text was written and the status told; or the sink failed (8) or memory was wanting (12), and a front part of
+-- the text was written and the status told; or the sink failed (8) or memory ran out (12), and a front part of
 -- the text was written
 pub data Writes (text : List ℕ) (status : ℕ) (old new : Sight) (result : ℕ) : Type 0 where
   Whole : result ≡ status → Took text old.held new.held → new.faults ≡ old.faults → Writes text status old new result

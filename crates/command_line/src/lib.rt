@@ -1,6 +1,7 @@
-//! What the program is asked, what it answers, and where its files and bytes come from and go to. It stands on
-//! `rr_base` and `thread_interpreter`. It promises which words are a job, the exact text and exit status of each answer, and that each fault of
-//! the system is counted.
+//! What the program is asked, what it answers, and where its files and bytes come from and go to.
+//!
+//! Its contract: `job_of` and `text_of` are their definitions; each fault of the system is counted.
+//! It knows nothing of how an answer is found.
 #![tactic(auto)]
 
 mod adapters;
@@ -9,7 +10,6 @@ mod arguments;
 mod asking;
 mod command;
 mod event;
-mod files;
 mod job;
 mod number;
 mod predicate;
@@ -22,7 +22,6 @@ pub use adapters::{FileShelf, InSource, OutSink};
 pub use answer::{Answer, Part, text_of};
 pub use asking::job_of;
 pub use event::Event;
-pub use files::read_within;
 pub use job::{Job, RecordJob};
 pub use summary::summary_text;
 pub use telling::{tell, tell_answer};

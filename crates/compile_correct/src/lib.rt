@@ -1,6 +1,10 @@
-//! Runs of a text: what the machine of its code does is a run of the source, and so is what that of its weakened code does, whose
-//! logs walk to what they were written of. It joins `front`, which reads a text, with `lowering_simulation`, `erasure` and `race_free`,
-//! whose laws are of core trees and codes. It has no program, and promises its laws.
+//! Runs of a text: what the machine of its code does is a run of the source, and so is what that of its weakened code
+//! does, whose logs walk to what they were written of. It has no program, and promises its laws.
+//!
+//! Its contract: `law_text_run`, `law_text_walk`: each run and each walk of a text's code is a run of its source;
+//! `law_text_log`: the log of a run of its weakened code walks to that run's end, as a run of the source that prints
+//! the walk's bytes.
+//! It knows nothing of files, texts of logs.
 #![tactic(auto)]
 
 ghost use Rattle.std.specs.Prelude.{◌≡◌, ◌≤◌, ◌^◌, List, length, Some};

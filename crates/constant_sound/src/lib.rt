@@ -1,6 +1,8 @@
-//! The value of a constant expression is what its core tree gives when it runs. Numbers stand twice below: `c_types` folds
-//! constants of a source over whole numbers, and `word_semantics` computes on words. This crate joins the two. It stands on
-//! `c_operators` and `c_values`.
+//! The value of a constant expression is what its core tree gives when it runs. Numbers stand twice below: `c_types`
+//! folds constants of a source over whole numbers, and `word_semantics` computes on words. This crate joins the two.
+//!
+//! Its contract: `law_constant`: the core tree of a constant expression gives its value when it runs, folded or not.
+//! It knows nothing of whole sources, instructions.
 #![tactic(auto)]
 
 mod laws;

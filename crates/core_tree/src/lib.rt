@@ -1,6 +1,8 @@
-//! The core tree of a C source: what the source does, with names and types settled. It stands on `rr_base`, `c_tree` and
-//! `word_semantics`, whose operators, calls and events it shares. What one thread of a core tree does is defined by
-//! recursion on it.
+//! The core tree of a C source: what the source does, with names and types settled. What one thread of a core tree does
+//! is defined by recursion on it.
+//!
+//! Its contract: the definitions `run_of` of `specs/Meaning.antt`, and of sound trees in `specs/Sound.antt`.
+//! It knows nothing of a source's types, instructions.
 #![tactic(auto)]
 
 mod program;

@@ -1,5 +1,5 @@
-use word_semantics::{BinaryOp, LibraryCall};
 use rr_base::{List, Position, PtrWord};
+use word_semantics::{BinaryOp, LibraryCall};
 
 /// An operator of C99 6.5.3.3 on a whole number. `Not` takes a pointer too.
 #[derive(Clone, Copy, Debug, PartialEq, Eq)]

@@ -41,7 +41,7 @@ module _ {J : Type 0} (g : Job.Ghosts J) where
     begins : Reached number start 0 start
     goes_on : (k : ℕ) (s t : PlayState J) → Reached number start k s → Chance (number k) s t → Reached number start (k + 1) t
 
-  -- all jobs were led to their end, or a turn was wanting
+  -- all jobs were led to their end, or a turn was missing
   pub record Ends (number : ℕ → ℕ) (start : PlayState J) (IsEnd : PlayState J → Type 0) (last : PlayState J) : Type 0 where
     pub chances : ℕ
     pub reached : Reached number start chances last

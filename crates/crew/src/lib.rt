@@ -1,6 +1,9 @@
-//! Jobs that are run in turns, and the crews that run them: one that gives turns by an order on one thread, and one that
-//! has a thread for each job. It stands on `rr_base`. It promises that what a crew hands back are the jobs that it was
-//! given, in their order, each led to its end by turns, and that three counts tell what was done.
+//! Jobs that are run in turns, and the crews that run them: one that gives turns by an order on one thread, and one
+//! that has a thread for each job.
+//!
+//! Its contract: `Crew::run`: the same jobs come back, each led by turns to its end, and three counts tell what was
+//! done.
+//! It knows nothing of what a job does.
 #![tactic(auto)]
 
 mod crew;

@@ -85,7 +85,7 @@ impl<J: Job> Play<J> {
         true
     }
 
-    /// Chances by the order. False where a turn is wanting.
+    /// Chances by the order. False where a turn is missing.
     fn follow(&mut self, order: &[u8]) -> bool
         ensures { let number = whose order.now (length self.old.jobs) in MatchBool result (Reached J.Job number self.old (length order.now) self.new) (Ends J.Job number self.old IsSpent self.new) }
     {
@@ -97,7 +97,7 @@ impl<J: Job> Play<J> {
         true
     }
 
-    /// A chance for each job, from the first one on. False where a turn is wanting.
+    /// A chance for each job, from the first one on. False where a turn is missing.
     fn round(&mut self) -> bool
         ensures reached { (number : ℕ → ℕ) (start : PlayState J) (k : ℕ) → ((at : ℕ) → at < length self.old.jobs → number (k + at) ≡ at) → Reached J.Job number start k self.old → MatchBool result (Reached J.Job number start (k + length self.old.jobs) self.new) (Ends J.Job number start IsSpent self.new) }
         ensures spends { IsTrue result → (self.new.left < self.old.left) ⊎ IsOver self.old }
@@ -110,7 +110,7 @@ impl<J: Job> Play<J> {
         true
     }
 
-    /// Gives turns by the order, and then round robin, until all jobs have ended. False where a turn is wanting.
+    /// Gives turns by the order, and then round robin, until all jobs have ended. False where a turn is missing.
     pub(crate) fn play(&mut self, order: &[u8]) -> bool
         ensures { let number = whose order.now (length self.old.jobs) in MatchBool result (Ends J.Job number self.old IsOver self.new) (Ends J.Job number self.old IsSpent self.new) }
     {

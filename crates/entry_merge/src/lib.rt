@@ -1,5 +1,7 @@
-//! The written merge of the lists of a run's entries. It stands on `run_theory`, whose laws say that on such lists it takes all
-//! entries. It promises exactly that merge, whatever the lists are.
+//! The written merge of the lists of a run's entries.
+//!
+//! Its contract: `merge` is `written_merge`.
+//! It knows nothing of what a thread computes.
 #![tactic(auto)]
 
 ghost use Rattle.std.specs.Prelude.{◌≡◌, map, position, IfOk, IfSome, MatchOption, OnOk, length, ◌<◌};

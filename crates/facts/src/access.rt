@@ -6,9 +6,9 @@ ghost use Rattle.facts.specs.Pairs as spec;
 
 use crate::pair::AccessAt;
 use crate::points::PointsTo;
-use word_semantics::LibraryCall;
 use flow_code::{Act, Code};
 use rr_base::Place;
+use word_semantics::LibraryCall;
 
 fn through_call(call: &LibraryCall, arguments: &[u32]) -> Option<u32>
     ensures { result ≡ through_of (library_access call.now arguments.now) }

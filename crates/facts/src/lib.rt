@@ -1,6 +1,10 @@
-//! The results of the analyses as types, each of which keeps what it is, and their definitions. It stands on `rr_base` and
-//! `flow_code`. It has blocks of instructions, and the constants in them; points-to: its constraints and its answer; names of
-//! locks, relative locksets and summaries of functions; and pairs of accesses that may race. The answer of each analysis is the only one that its definition allows.
+//! The results of the analyses as types, each of which keeps what it is, and their definitions. It has blocks of
+//! instructions, and the constants in them; points-to: its constraints and its answer; names of locks, relative
+//! locksets and summaries of functions; and pairs of accesses that may race. The answer of each analysis is the only
+//! one that its definition allows.
+//!
+//! Its contract: the definitions of `specs/`; `law_one_..`: each analysis has one answer.
+//! It knows nothing of how an analysis finds it.
 #![tactic(auto)]
 
 mod access;

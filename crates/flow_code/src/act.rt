@@ -1,6 +1,6 @@
 use crate::work::Work;
-use word_semantics::LibraryCall;
 use rr_base::{List, Position};
+use word_semantics::LibraryCall;
 
 /// An instruction, and where in the source it stands.
 #[derive(Debug, Drop)]

@@ -5,8 +5,8 @@ ghost use Rattle.word_semantics.specs.Pointers as pointers;
 ghost use Rattle.flow_code.specs.Addresses as spec;
 
 use crate::code::Code;
-use word_semantics::site_at;
 use rr_base::{CellKind, PtrWord, Site};
+use word_semantics::site_at;
 
 /// The first global cell of the object of the site with this number; none of a site that is no global.
 pub fn base_at(bases: &[Option<u32>], site: u16) -> Option<u32>

@@ -7,8 +7,8 @@ ghost use Rattle.word_semantics.specs.Registers.{words_of};
 
 use crate::act::{Act, Instr};
 use crate::works::set_register;
-use word_semantics::{argument, pointer_at, size_of};
 use rr_base::Site;
+use word_semantics::{argument, pointer_at, size_of};
 
 /// Whether a function of this name is the program's `main` (C99 5.1.2.2.1).
 pub fn is_main(name: &[u8]) -> bool

@@ -1,7 +1,10 @@
-//! Flow code: functions as lists of instructions with jumps, and what one thread of a code does.
-//! It stands on `rr_base`, `sync_objects` and `word_semantics`. Its definitions say what comes next in a thread, and the state
-//! after it; its functions give the parts of that for any code, valid or not, exactly as the definitions have them. And
-//! it tells which codes are valid.
+//! Flow code: functions as lists of instructions with jumps, and what one thread of a code does. Its definitions say
+//! what comes next in a thread, and the state after it; its functions give the parts of that for any code, valid or
+//! not, exactly as the definitions have them. And it tells which codes are valid.
+//!
+//! Its contract: the definitions of `specs/Next.antt` and `specs/Settle.antt`; each evaluating function is its
+//! definition.
+//! It knows nothing of words shared with other threads.
 #![tactic(auto)]
 
 mod act;

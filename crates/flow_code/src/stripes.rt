@@ -8,8 +8,8 @@ ghost use Rattle.flow_code.specs.Stripes.{any_from};
 
 use crate::code::{Code, LockInfo};
 use crate::region::{Base, Bound, Region, Span};
-use word_semantics::{known, number, pointer_at, register, site_at, size_of};
 use rr_base::{PtrWord, Site};
+use word_semantics::{known, number, pointer_at, register, site_at, size_of};
 
 // In which of a lock's stripes a cell of an object of so many cells lies.
 fn stripe_at(stripes: u8, offset: u16, cells: u16) -> u32

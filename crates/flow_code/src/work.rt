@@ -1,5 +1,5 @@
-use word_semantics::BinaryOp;
 use rr_base::PtrWord;
+use word_semantics::BinaryOp;
 
 /// What an instruction computes from registers. The numbers are registers but where said otherwise.
 #[derive(Clone, Copy, Debug, PartialEq, Eq)]

@@ -3,11 +3,11 @@ ghost use Rattle.std.specs.Prelude.{◌≡◌, slice_set};
 ghost use Rattle.flow_code.specs.Works as spec;
 
 use crate::work::Work;
+use rr_base::{Site, Trap};
 use word_semantics::{
     based, compared, either_binary, elements_between, moved, moved_by, negate, number, number_from,
     pointer_to, register, truth, word,
 };
-use rr_base::{Site, Trap};
 
 /// Writes a word into a register, where the frame has it.
 pub fn set_register(registers: &mut Vec<u64>, r: u32, word: u64)

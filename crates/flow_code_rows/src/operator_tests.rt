@@ -1,6 +1,6 @@
-use word_semantics::{BinaryOp, LibraryCall, Piece, binary, number, piece, piece_len, word};
 use rr_base::{List, Trap};
 use std::test::Fail;
+use word_semantics::{BinaryOp, LibraryCall, Piece, binary, number, piece, piece_len, word};
 
 #[test]
 fn operators_give(rt: HostRuntime) {

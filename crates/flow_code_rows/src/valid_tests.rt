@@ -1,9 +1,9 @@
-use word_semantics::{BinaryOp, LibraryCall, Piece};
 use flow_code::{Act, Base, Bound, Code, Function, Instr, LockInfo, Region, Span, Work, is_valid};
 use rr_base::{Bytes, CellKind, Layout, List, Position, PtrWord, Site};
 use std::alloc::{AllocError, Global};
 use std::process::Abort;
 use std::test::Fail;
+use word_semantics::{BinaryOp, LibraryCall, Piece};
 
 // What of the code below differs from row to row.
 #[derive(Clone, Copy, Debug)]
@@ -244,7 +244,7 @@ const CODES: [(Shape, bool); 13] = [
     ),
 ];
 
-// More of them, in a table of its own, since a function that names one pays for its rows.
+// More of them, in a table of its own, since the proof of a function grows with the rows of each table that it names.
 const MORE_CODES: [(Shape, bool); 12] = [
     (Shape { stripes: 2, ..GOOD }, false),
     (

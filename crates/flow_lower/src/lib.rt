@@ -1,4 +1,7 @@
-//! The code of a core tree. It stands on `core_tree`, `flow_code` and `lowering_parts`.
+//! The code of a core tree.
+//!
+//! Its contract: `lower` is the code that its definition gives.
+//! It knows nothing of how a core tree is made of a source.
 #![tactic(auto)]
 
 mod expression;

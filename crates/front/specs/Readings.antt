@@ -53,7 +53,7 @@ abbrev pub fault_number : Fault → List Lexeme → ℕ
 fault_number Nesting rest = 8
 fault_number Syntax rest = if begins_refused rest then 20 else 7
 
--- the one tree of the tokens, or the first token that ends every hope of one
+-- the one tree of the tokens, or the first token that fits none
 abbrev pub IsByTree : List Token → Outcome (List Outer) → Reading → Type 0
 IsByTree tokens (Got os rest) r = r ≡ by_first_fault os (first_fault os)
 IsByTree tokens (Stuck fault rest) r = r ≡ refused_at (fault_number fault rest) (stands_at rest tokens)

@@ -1,6 +1,7 @@
-//! From the bytes of a C source to its code, or the first thing for which the source is refused. It stands on `c_lexer`,
-//! `c_parser` and `c_sites`, which refuse in this order, on `c_elaborate` and `flow_lower`, which make the code, on the
-//! analyses of codes, and on `weaken`, which puts weak locks into it.
+//! From the bytes of a C source to its code, or the first thing for which the source is refused.
+//!
+//! Its contract: `plain`: the code of a text, or the first fault with its place; `typed`: its tree.
+//! It knows nothing of runs of a code, logs.
 #![tactic(auto)]
 
 mod analysed;

@@ -1,5 +1,8 @@
-//! The grain at which each racy access is guarded, by the race pairs, the known ranges and a profile. It stands on
-//! `rr_base`, `flow_code`, `facts` and `weak_lock_facts`. A law says that there is one answer.
+//! The grain at which each racy access is guarded, by the race pairs, the known ranges and a profile. A law says that
+//! there is one answer.
+//!
+//! Its contract: `choose` is `AreGrains`.
+//! It knows nothing of how pairs and ranges were found.
 #![tactic(auto)]
 
 mod accesses;

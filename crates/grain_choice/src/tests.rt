@@ -1,7 +1,6 @@
 ghost use Rattle.std.specs.Prelude.{◌≡◌, IfOk};
 
 use super::*;
-use word_semantics::LibraryCall;
 use facts::{AccessAt, Pair};
 use flow_code::{Act, Code, Function, Instr, Work};
 use profiles::{FunctionPairs, Profile};
@@ -9,6 +8,7 @@ use rr_base::{Bytes, List, Place, Position};
 use std::alloc::{AllocError, Global};
 use std::test::Fail;
 use weak_lock_facts::{Grain, Grained, Range};
+use word_semantics::LibraryCall;
 
 const START: Position = Position { line: 1, column: 1 };
 

@@ -1,5 +1,9 @@
-//! On each way through a weakened function to an access that may race a region is open that guards it, and each return gives
-//! all regions. So a thread has no weak lock at the end of its first function. It stands on `weak_code` and `weak_valid`.
+//! On each way through a weakened function to an access that may race a region is open that guards it, and each return
+//! gives all regions. So a thread has no weak lock at the end of its first function.
+//!
+//! Its contract: `law_accesses_are_guarded`: on each way to an access that may race a region is open that guards it;
+//! `law_last_return_has_nothing`.
+//! It knows nothing of what is answered to a thread.
 #![tactic(auto)]
 
 mod laws;

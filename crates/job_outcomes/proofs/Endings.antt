@@ -56,7 +56,7 @@ comes_at_once MayHave PutsBefore old new (Err stop.OutOfMemory) none h e = ([], 
 
 -- ---- the statuses
 
--- the status is that of an answer, or comes of a fault, which has raised a count, or of wanting memory
+-- the status is that of an answer, or comes of a fault, which has raised a count, or of memory that ran out
 pub record Causes (old new : Outside) (result : ℕ) : Type 0 where
   pub input : result ≡ 7 → Rose old.counts.input new.counts.input
   pub output : result ≡ 8 → Rose old.out.faults new.out.faults

@@ -24,8 +24,8 @@ pub record ShelfSight : Type 0 where
   pub files : Option Files
   pub faults : ℕ
 
--- an outcome is put and told. Its files were put and its answer was told; or a put failed, and that was told; or memory was
--- wanting for a put (12), and nothing was told
+-- an outcome is put and told. Its files were put and its answer was told; or a put failed, and that was told; or memory ran
+-- out at a put (12), and nothing was told
 pub data Finishes (o : Outcome) (shelf_old shelf_new : ShelfSight) (out_old out_new : Sight) (result : ℕ) : Type 0 where
   Tells : ArePut o.puts shelf_old.files shelf_new.files → shelf_new.faults ≡ shelf_old.faults → Writes (text_of o.answer) (status_of o.answer) out_old out_new result → Finishes o shelf_old shelf_new out_old out_new result
   PutFails : PutFailed o.puts shelf_old.files shelf_new.files → Rose shelf_old.faults shelf_new.faults → Writes shelf_fault 9 out_old out_new result → Finishes o shelf_old shelf_new out_old out_new result
@@ -62,7 +62,7 @@ pub data IsCutOff (ps : List Put) (old new : Option Files) : Type 0 where
 
 -- How a call ends, where the outcomes that its job may have are given, and the files that it puts before it has one; and whether the
 -- job uses the shelf, reads the input, and has threads run. An outcome was found, whose files are put, and it is told; or before
--- that the shelf, the input or the crew failed, and that was told; or memory was wanting (12), and nothing was told. What the job
+-- that the shelf, the input or the crew failed, and that was told; or memory ran out (12), and nothing was told. What the job
 -- had put until then stays.
 pub data Ends (MayHave : Outcome → Type 0) (PutsBefore : List Put → Type 0) (UsesShelf ReadsInput Runs : Type 0) (old new : Outside) (result : ℕ) : Type 0 where
   Found : (o : Outcome) → MayHave o → OnlyShelf old new → Finishes o (shelf_of old) (shelf_of new) old.out new.out result → Ends MayHave PutsBefore UsesShelf ReadsInput Runs old new result

@@ -1,6 +1,7 @@
-//! What a job comes to, step by step, and how a call of the program ends. It stands on `rr_base` and `command_line`. It promises
-//! that a refusal is the answer and nothing is put then, that files are put in their order, and that each end has its text, its
-//! exit status and its cause.
+//! What a job comes to, step by step, and how a call of the program ends.
+//!
+//! Its contract: `finish`, `put_all`, `file`, `input`.
+//! It knows nothing of what a job asks for.
 #![tactic(auto)]
 
 mod finishing;

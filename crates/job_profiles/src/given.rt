@@ -11,8 +11,8 @@ ghost use Rattle.job_outcomes.specs.Steps.{Finds};
 ghost use Rattle.job_outcomes.specs.declared.stop.Stop.TheVariants as stop;
 
 use command_line::{Answer, Part};
-use order_log::is_name;
 use job_outcomes::{Keeper, Stop, file};
+use order_log::is_name;
 use profile_book::{ProfileFault, read_profile};
 use profiles::{FunctionPairs, Profile};
 use rr_base::{Bytes, List};

@@ -1,5 +1,7 @@
-//! The profile that a job is given, and what a log can tell of it. It stands on `job_outcomes`, `profile_book` and `order_log`. It
-//! promises which profile a file has or why it is refused, and which pairs are kept.
+//! The profile that a job is given, and what a log can tell of it.
+//!
+//! Its contract: `profile_of`, `named`.
+//! It knows nothing of sources.
 #![tactic(auto)]
 
 mod given;

@@ -1,4 +1,4 @@
-// An outcome where memory may be wanting.
+// An outcome where memory may run out.
 
 ghost use Rattle.std.specs.Prelude.{◌≡◌, MatchResult, Ok};
 ghost use Rattle.job_outcomes.specs.declared.stop.Stop.TheVariants as stop;
@@ -6,7 +6,7 @@ ghost use Rattle.job_outcomes.specs.declared.stop.Stop.TheVariants as stop;
 use job_outcomes::{Outcome, Stop};
 use std::alloc::AllocError;
 
-/// An outcome, or else that memory was wanting.
+/// An outcome, or else that memory ran out.
 pub fn or_stop<'a>(found: Result<Outcome<'a>, AllocError>) -> Result<Outcome<'a>, Stop>
     ensures { MatchResult result (λ o. found.entry ≡ Ok o) (λ end. end ≡ stop.OutOfMemory) }
 {

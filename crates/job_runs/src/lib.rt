@@ -1,5 +1,9 @@
-//! The runs of weakened code that a job has: a recording with its log and what is told of it, the walk of a log, and a recording that is
-//! replayed. It knows of no source: `jobs` gives it the code, and says what these runs are of a source.
+//! The runs of weakened code that a job has: a recording with its log and what is told of it, the walk of a log, and a
+//! recording that is replayed. It knows of no source: `jobs` gives it the code, and says what these runs are of a
+//! source.
+//!
+//! Its contract: `recorded_on`, `recorded_code`, `told_walk`, `replayed_log`, `log_in`.
+//! It knows nothing of sources, words.
 #![tactic(auto)]
 
 mod ending;

@@ -6,8 +6,8 @@ ghost use Rattle.job_outcomes.specs.Faults.{IsPure};
 ghost use Rattle.job_outcomes.specs.Steps.{Finds};
 
 use command_line::Answer;
-use order_log::{Log, LogFault, read_log};
 use job_outcomes::Stop;
+use order_log::{Log, LogFault, read_log};
 use std::alloc::Global;
 
 /// The log that bytes are.

@@ -13,13 +13,13 @@ ghost use Rattle.job_outcomes.specs.Steps.{Comes, Gives, IsInput};
 ghost use Rattle.std.specs.List.{AllByRecursion};
 ghost use Rattle.sync_objects.specs.Names.{Fits};
 
-use happens_before::law_ordered;
 use command_line::{Part, RecordJob};
 use crew::{Crew, CrewEnd};
+use happens_before::law_ordered;
+use job_outcomes::{Outcome, Put, Stop, input as whole_input};
 use lock_sound::{Weakened, law_weakened_runs};
 use log_limits::law_log_is_within;
 use order_log::{Log, write_log};
-use job_outcomes::{Outcome, Put, Stop, input as whole_input};
 use profiles::Profile;
 use race_free::law_no_race;
 use recorder::{Recorded, record_threads};

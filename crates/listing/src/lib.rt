@@ -1,5 +1,8 @@
-//! Listings for a reader of the source: of the pairs of accesses that may race, and of the weak locks with the accesses that
-//! they guard. It stands on `rr_base`, `flow_code`, `facts` and `weak_lock_facts`.
+//! Listings for a reader of the source: of the pairs of accesses that may race, and of the weak locks with the accesses
+//! that they guard.
+//!
+//! Its contract: `races_text` is `races_text_of`, `weak_text` is `weak_text_of`.
+//! It knows nothing of how pairs are found.
 #![tactic(auto)]
 
 mod line;

@@ -4,11 +4,11 @@ ghost use Rattle.facts.specs.Accesses as accesses;
 ghost use Rattle.listing.specs.Lines as lines;
 
 use crate::line::{Line, Shown};
-use word_semantics::LibraryCall;
 use facts::{AccessAt, Pair};
 use flow_code::{Act, Code};
 use rr_base::Position;
 use std::alloc::{AllocError, Global};
+use word_semantics::LibraryCall;
 
 fn call_stores(call: &LibraryCall, arguments: &[u32]) -> bool
     ensures { result ≡ lines.is_store (accesses.library_access call.now arguments.now) }

@@ -4,12 +4,11 @@ ghost use Rattle.listing.specs.Text as listing;
 
 use crate::line::{Line, Shown};
 use crate::lines::sorted;
-use word_semantics::site_at;
 use facts::Pair;
 use flow_code::Code;
-use rr_base::push_numbered;
-use rr_base::{Bytes, List, Place};
+use rr_base::{Bytes, List, Place, push_numbered};
 use std::alloc::{AllocError, Global};
+use word_semantics::site_at;
 
 /// A place by the name of its site, and its class.
 pub(crate) fn push_place(out: &mut Bytes, code: &Code, place: Place) -> Result<(), AllocError>

@@ -8,8 +8,7 @@ use crate::lines::shown;
 use crate::text::{kind, push_place};
 use facts::AccessAt;
 use flow_code::{Code, LockInfo};
-use rr_base::push_numbered;
-use rr_base::{Bytes, List, Place, Position};
+use rr_base::{Bytes, List, Place, Position, push_numbered};
 use std::alloc::{AllocError, Global};
 use weak_lock_facts::{Grain, Grained};
 

@@ -1,7 +1,10 @@
-//! Which mutexes, read-write locks and stripes of weak locks are held, and how threads are handed over, in every run of the machine. It
-//! stands on `core_run` and `run_theory`. It promises that the word of a mutex or a stripe names its holder, and the word of a read-write lock shows who
-//! holds it and in which way, as the operations of the run made it, so that the law of order by a lock asks nothing more of this machine; that the stripes of a thread
-//! are those of its open regions; and that starts and joins order what they hand over.
+//! Which mutexes, read-write locks and stripes of weak locks are held, and how threads are handed over, in every run of
+//! the machine.
+//!
+//! Its contract: `law_mutex_held`, `law_rw_held`, `law_stripe_held`: what the law of order by a lock asks;
+//! `law_open_regions`: a thread's stripes are those of its open regions; `law_started`, `law_ended`: what starts and
+//! joins order.
+//! It knows nothing of analyses, where regions come from.
 #![tactic(auto)]
 
 mod hand_offs;

@@ -1,5 +1,7 @@
-//! A code with what the analyses find of it and with its weak locks, as one value which keeps that it is so. It stands on
-//! `facts`, `weak_lock_facts`, `weak_code`, `weak_valid` and `guard_paths`.
+//! A code with what the analyses find of it and with its weak locks, as one value which keeps that it is so.
+//!
+//! Its contract: a `Weakened` keeps that they are its own.
+//! It knows nothing of how they are found.
 #![tactic(auto)]
 
 mod laws;

@@ -6,11 +6,11 @@ ghost use Rattle.facts.specs.Paths.{actual_of, are_small_actuals};
 ghost use Rattle.lockset_flow.specs.Rounds.{library_by, after_by};
 
 use crate::calls::actuals;
-use word_semantics::LibraryCall;
 use facts::{Naming, RelLocks};
 use flow_code::Act;
 use std::alloc::{AllocError, Global};
 use sync_objects::Mode;
+use word_semantics::LibraryCall;
 
 // The locks after a library call; a wait gives its mutex back and takes it again.
 fn after_library(

@@ -1,6 +1,8 @@
-//! Relative locksets: the locks at all points of a function, where the exits of
-//! those that it calls are given. They are the greatest solution, found by rounds over the instructions. It stands on
-//! `rr_base`, `flow_code` and `facts`.
+//! Relative locksets: the locks at all points of a function, where the exits of those that it calls are given. They are
+//! the greatest solution, found by rounds over the instructions.
+//!
+//! Its contract: `flow_function` is `IsGreatest`.
+//! It knows nothing of how its callees' exits are found.
 #![tactic(auto)]
 
 mod calls;

@@ -1,6 +1,7 @@
-//! What the relative locks of the analysis mean in every run of the machine. It stands on `facts` and `lock_ownership`. It promises
-//! that the locks which a solution gives for the points of a thread's frames are those that the thread holds, in these modes; so two threads
-//! that are next to access one place are such a pair as the analysis counts. It knows nothing of where pointers point.
+//! What the relative locks of the analysis mean in every run of the machine. It knows nothing of where pointers point.
+//!
+//! Its contract: `law_guarded`: at an access the thread holds the global locks of a row for it; `law_may_race`.
+//! It knows nothing of how locksets are found, points-to.
 #![tactic(auto)]
 
 mod laws;

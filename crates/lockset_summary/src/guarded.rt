@@ -13,12 +13,12 @@ ghost use Rattle.lockset_summary.specs.Visits.{IsOrder};
 use crate::names::{names_at, names_of};
 use crate::rows::insert;
 use crate::visits::function_at;
-use word_semantics::LibraryCall;
 use facts::{Guarded, LockPath, Naming, RelLocks};
 use flow_code::{Act, Code};
 use lockset_flow::{FlowFacts, actuals};
 use rr_base::List;
 use std::alloc::{AllocError, Global};
+use word_semantics::LibraryCall;
 
 // A number of 32 bits; beyond those, to which no function or instruction comes, it counts as want of memory.
 fn number(value: usize) -> Result<u32, AllocError>

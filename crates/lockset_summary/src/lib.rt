@@ -1,5 +1,8 @@
-//! The summaries of functions: the locks at each function's exit, relative to its entry, and the accesses that it and those
-//! it calls make, with the locks at each. It stands on `rr_base`, `flow_code`, `facts` and `lockset_flow`.
+//! The summaries of functions: the locks at each function's exit, relative to its entry, and the accesses that it and
+//! those it calls make, with the locks at each.
+//!
+//! Its contract: `summaries` is `AreSummaries`.
+//! It knows nothing of where data's pointers point.
 #![tactic(auto)]
 
 mod compare;

@@ -5,11 +5,11 @@ ghost use Rattle.flow_code.specs.declared.code.Function.{Function as Routine};
 ghost use Rattle.facts.specs.Paths as paths;
 ghost use Rattle.lockset_summary.specs.Names as spec;
 
-use word_semantics::LibraryCall;
 use facts::{Naming, argument_names};
 use flow_code::{Code, Function};
 use rr_base::List;
 use std::alloc::{AllocError, Global};
+use word_semantics::LibraryCall;
 
 #[tactic(auto, using(crate::proofs::Naming::only_is, crate::proofs::Naming::not_only))]
 fn only_name(names: &[Naming]) -> Naming

@@ -1,6 +1,8 @@
-//! What a run writes as its log is within the limits of a log: of each run of weakened code, in any interleaving, with any
-//! revokes, stops and closes. It joins `open_regions` and `lock_sound`, which know weakened code, with `order_log`, which knows
-//! logs. It has no program, and promises its laws.
+//! What a run writes as its log is within the limits of a log: of each run of weakened code, in any interleaving, with
+//! any revokes, stops and closes. It has no program, and promises its laws.
+//!
+//! Its contract: `law_log_is_within`, `law_log_is_short`.
+//! It knows nothing of texts.
 #![tactic(auto)]
 
 mod laws;

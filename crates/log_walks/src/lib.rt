@@ -1,5 +1,9 @@
-//! The walks of logs that threads have followed side by side, each by its own entries: they are those of the log walked alone,
-//! whatever the interleaving was. It joins `replay_theory` and the machine of `core_run`, has no program, and promises its laws.
+//! The walks of logs that threads have followed side by side, each by its own entries: they are those of the log walked
+//! alone, whatever the interleaving was.
+//!
+//! Its contract: `law_wrong`, `law_whole`, `law_unfinished`: what the walk of a log that threads have followed comes
+//! to.
+//! It knows nothing of sources, texts, how threads are run.
 #![tactic(auto)]
 
 ghost use Rattle.std.specs.Prelude.{◌≡◌, ◌≤◌, ◌<◌, ◌↔◌, ℕ, List, Some, length, slice_get};

@@ -17,12 +17,12 @@ use crate::rounds::rounds_of;
 use crate::shifts::moved_shift;
 use crate::spans::{calls_nothing, loop_code};
 use crate::ways::{Ways, ways_of};
-use word_semantics::site_at;
 use facts::{PointsTo, amounts, block_starts};
 use flow_code::{Act, Code, Function, Instr, LoopInfo};
 use rr_base::{List, Place, sum};
 use std::alloc::{AllocError, Global};
 use weak_lock_facts::Range;
+use word_semantics::site_at;
 
 // Whether the loop is the innermost one of any kind round the instruction, whose innermost loop begins with this Mark.
 fn is_innermost(round: Option<usize>, at: usize, counted: &LoopInfo) -> bool

@@ -7,8 +7,8 @@ ghost use Rattle.facts.specs.Blocks as blocks;
 ghost use Rattle.weak_lock_facts.specs.Loops as loops;
 ghost use Rattle.weak_lock_facts.specs.Ranges as ranges;
 
-use word_semantics::BinaryOp;
 use flow_code::{Act, Bound, Instr, Work};
+use word_semantics::BinaryOp;
 
 /// What the instruction at a place does.
 pub fn nth(instrs: &[Instr], at: usize) -> Option<&Act>

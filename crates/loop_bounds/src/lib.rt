@@ -1,5 +1,8 @@
-//! The counted loops of a code, and the accesses in them whose elements are known where the loop is entered. It stands on
-//! `rr_base`, `flow_code`, `facts` and `weak_lock_facts`.
+//! The counted loops of a code, and the accesses in them whose elements are known where the loop is entered.
+//!
+//! Its contract: `counted_loops` is `counted_loops_of`, `ranges` is `ranges_of`; `law_element`: what a range says of
+//! each turn.
+//! It knows nothing of how locks and pairs are found.
 #![tactic(auto)]
 
 mod accesses;

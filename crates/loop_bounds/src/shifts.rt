@@ -8,8 +8,8 @@ ghost use Rattle.weak_lock_facts.specs.Ranges as spec;
 
 use crate::acts::{moved_of, nth};
 use crate::makers::{Makers, is_kept};
-use word_semantics::BinaryOp;
 use flow_code::{Act, Base, Instr, LoopInfo, Work};
+use word_semantics::BinaryOp;
 
 /// The address of a global, or a register that the loop keeps.
 fn base_of(

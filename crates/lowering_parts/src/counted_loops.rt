@@ -7,11 +7,11 @@ ghost use Rattle.lowering_parts.specs.Sizes as size;
 ghost use Rattle.lowering_parts.specs.Loops as spec;
 
 use crate::sizes::{maybe_size, statement_size, test_size, value_size};
-use word_semantics::BinaryOp;
 use core_tree::{Assignment, Change, Operation, Simple, Statement, Value};
 use flow_code::{Bound, LoopInfo};
 use rr_base::{List, sum};
 use std::alloc::AllocError;
+use word_semantics::BinaryOp;
 
 fn number_of(e: &Value) -> Option<i64>
     ensures { result ≡ spec.number_of (exp_of e.now) }

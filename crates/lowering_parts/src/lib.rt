@@ -1,5 +1,10 @@
-//! What the code of a core tree is made of: which registers are copied and which are pointers, how many instructions there are,
-//! the counted loops, and pieces of code whose operands have registers. It stands on `core_tree` and `flow_code`.
+//! What the code of a core tree is made of: which registers are copied and which are pointers, how many instructions
+//! there are, the counted loops, and pieces of code whose operands have registers.
+//!
+//! Its contract: `statement_size`, `push_statement_kinds`, `push_statement_loops`: how many instructions, which
+//! registers are pointers, which loops are counted, as their definitions have them; each `push_..` of a piece adds that
+//! piece.
+//! It knows nothing of the order of a tree's parts in its code.
 #![tactic(auto)]
 
 mod copies;

@@ -2,9 +2,9 @@
 ghost use Rattle.std.specs.Prelude.{◌≡◌, IfOk};
 ghost use Rattle.lowering_parts.specs.Sizes as spec;
 
-use word_semantics::LibraryCall;
 use rr_base::List;
 use std::alloc::{AllocError, Global};
+use word_semantics::LibraryCall;
 
 /// Whether a call gives nothing.
 pub fn gives_nothing(call: &LibraryCall) -> bool

@@ -10,11 +10,11 @@ ghost use Rattle.lowering_parts.specs.Sizes as size;
 use crate::emit::{Next, change_work, push, push_truth, push_work};
 use crate::library::gives_nothing;
 use crate::sizes::value_size;
-use word_semantics::{BinaryOp, LibraryCall};
 use core_tree::{Change, Value};
 use flow_code::{Act, Instr, Work};
 use rr_base::{List, Position, sum};
 use std::alloc::AllocError;
+use word_semantics::{BinaryOp, LibraryCall};
 
 /// The register that has the value of an expression, and what is free after its code.
 #[derive(Clone, Copy, Debug)]

@@ -45,8 +45,9 @@ fn weak_in(text: &[u8]) -> Option<ObjId>
     Some(ObjId::Weak { lock, stripe })
 }
 
+/// The object that a text names. The greatest number of each type stands for all that are above.
 #[tactic(auto, unfolding(crate::specs::Line::object_in))]
-fn object_in(text: &[u8]) -> Option<ObjId>
+pub fn object_in(text: &[u8]) -> Option<ObjId>
     ensures { result ≡ option_map line.clipped_object (line.object_in text.now) }
 {
     match text {

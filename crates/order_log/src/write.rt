@@ -30,7 +30,8 @@ fn push_number_line(out: &mut Bytes, word: &[u8], n: u64) -> Result<(), AllocErr
     out.push(b'\n')
 }
 
-fn push_object(out: &mut Bytes, obj: ObjId) -> Result<(), AllocError>
+/// The name of an object, as a log's entries have it.
+pub fn push_object(out: &mut Bytes, obj: ObjId) -> Result<(), AllocError>
     ensures { OnOk result (out.new ≡ out.old ++ object_text obj) }
 {
     match obj {

@@ -8,11 +8,11 @@ ghost use Rattle.flow_code.specs.declared.act.Act.TheVariants as act;
 ghost use Rattle.facts.specs.PointsTo as spec;
 
 use crate::globals::push_sites;
-use word_semantics::LibraryCall;
 use facts::{Constraint, Node, amounts, block_starts};
 use flow_code::{Act, Code, Function, Instr, Work};
 use rr_base::{List, Place, sum};
 use std::alloc::{AllocError, Global};
+use word_semantics::LibraryCall;
 
 fn register_of(function: u32, register: u32) -> Node
     ensures { result ≡ node.Register function register }

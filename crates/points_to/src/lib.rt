@@ -1,5 +1,7 @@
-//! Where pointers may point: the constraints of a code, and the least sets that meet them. It stands on `rr_base`,
-//! `flow_code` and `facts`.
+//! Where pointers may point: the constraints of a code, and the least sets that meet them.
+//!
+//! Its contract: `solve` is `IsPointsTo`.
+//! It knows nothing of how locks and pairs are found.
 #![tactic(auto)]
 
 mod agenda;

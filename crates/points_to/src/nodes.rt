@@ -5,10 +5,10 @@ ghost use Rattle.facts.specs.PointsTo as spec;
 ghost use Rattle.points_to.specs.Nodes.{number_of as number_for, place_from, block_at, index_at, IsPlace};
 
 use crate::sets::RowIndex;
-use word_semantics::site_at;
 use facts::Node;
 use flow_code::Code;
 use rr_base::{Place, Site};
+use word_semantics::site_at;
 
 /// Where the row of a node stands.
 pub fn spot_of(code: &Code, node: Node) -> RowIndex

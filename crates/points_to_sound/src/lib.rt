@@ -1,7 +1,7 @@
-//! Where the pointers of a code's registers and cells point, in every run of the machine. It stands on `core_run`,
-//! `facts` and `lock_ownership`. It promises that each number of a thread is drawn once and its slot started by who drew it;
-//! and that each pointer has the base and length of an object of its site, and a place that the analysis of points-to
-//! gives to what holds it.
+//! Where the pointers of a code's registers and cells point, in every run of the machine.
+//!
+//! Its contract: `law_points_well`; `law_cells`: what is loaded or stored through a register is where points-to says.
+//! It knows nothing of how points-to is found, locks.
 #![tactic(auto)]
 
 mod laws;

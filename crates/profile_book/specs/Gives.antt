@@ -3,7 +3,7 @@ use Rattle.std.specs.Prelude.{◌≡◌, Option, Some, None, Result, Ok, Err}
 use Rattle.profile_book.specs.declared.fault.ProfileFault.{ProfileFault}
 use Rattle.profile_book.specs.declared.fault.ProfileFault.TheVariants as fault
 
--- the text is JSON by now; memory may still be wanting
+-- the text is JSON by now; memory may still run out
 abbrev pub Gives : {X : Type 0} → Option X → Result X ProfileFault → Type 0
 Gives found (Ok x) = found ≡ Some x
 Gives found (Err fault.NotJson) = ⊥

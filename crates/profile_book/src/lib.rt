@@ -1,5 +1,8 @@
-//! Profiles as JSON texts, both ways: `{"pairs":[["f","g"],["f","main"]]}`. It stands on `profiles`, which has the
-//! profile, and on `serde_json`. What is written of a profile's pairs is read back as those pairs.
+//! Profiles as JSON texts, both ways: `{"pairs":[["f","g"],["f","main"]]}`. What is written of a profile's pairs is
+//! read back as those pairs.
+//!
+//! Its contract: `read_profile` is Ok exactly on a JSON text that lists pairs of texts; what is written is read back.
+//! It knows nothing of logs, files.
 #![tactic(auto)]
 
 mod fault;

@@ -1,5 +1,8 @@
-//! No state of weakened code is a race, and the setup has each cell that comes next. So each log of a run walks to that run's end, whatever the interleaving was. It joins
-//! what is known of plain and of weakened code, has no program, and promises its laws.
+//! No state of weakened code is a race, and the setup has each cell that comes next. So each log of a run walks to that
+//! run's end, whatever the interleaving was.
+//!
+//! Its contract: `law_no_race`; `law_converge` and `law_log`: the log of a run walks to its end; `law_prefixes`.
+//! It knows nothing of sources, texts.
 #![tactic(auto)]
 
 mod laws;

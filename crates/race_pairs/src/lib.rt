@@ -1,5 +1,8 @@
 //! The pairs of accesses that may race, by what registers may point to and by the summaries of the functions with which
-//! threads may begin. It stands on `rr_base`, `flow_code` and `facts`.
+//! threads may begin.
+//!
+//! Its contract: `pairs` is `ArePairs`.
+//! It knows nothing of how its facts were found.
 #![tactic(auto)]
 
 mod access;

@@ -5,9 +5,9 @@ ghost use Rattle.flow_code.specs.Threads as threads;
 ghost use Rattle.facts.specs.Pairs as facts_pairs;
 ghost use Rattle.race_pairs.specs.Roots.{Marks, is_number};
 
-use word_semantics::LibraryCall;
 use flow_code::{Act, Code, Instr};
 use std::alloc::{AllocError, Global};
+use word_semantics::LibraryCall;
 
 /// The function with which an instruction starts a thread.
 fn created(act: &Act) -> Option<u32>

@@ -1,5 +1,7 @@
-//! The text of the accesses that are kept of a run. It stands on `rr_base`, `number_text`, `word_semantics`
-//! and `thread_interpreter`. It promises the exact lines.
+//! The text of the accesses that are kept of a run.
+//!
+//! Its contract: `reads_text` is `reads_text_of`; `push_value`.
+//! It knows nothing of which are kept.
 #![tactic(auto)]
 
 #[cfg(test)]

@@ -4,8 +4,7 @@ ghost use Rattle.std.specs.Prelude.{◌≡◌, ◌∷◌, [], ◌++◌, decimal,
 ghost use Rattle.reads_text.specs.Text as spec;
 
 use itoa::Buffer;
-use rr_base::push_numbered;
-use rr_base::{Bytes, List};
+use rr_base::{Bytes, List, push_numbered};
 use std::alloc::{AllocError, Global};
 use thread_interpreter::Access;
 

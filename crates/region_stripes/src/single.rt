@@ -1,4 +1,4 @@
-//! The law of the stripes that regions take.
+//! The law of the stripes that regions of functions, blocks and single accesses take.
 ghost use Rattle.std.specs.Prelude.{◌≡◌, ℕ, true, false, List, Some, slice_get};
 ghost use Rattle.std.specs.List.{Contains};
 ghost use Rattle.rr_base.specs.Words.{offset_of};

@@ -1,6 +1,8 @@
-//! Runs that follow a log, of any lawful machine without a race: each thread makes its entries of the log, with the numbers that
-//! they have there, whatever the others do meanwhile. It stands on `run_theory`, has no program, and promises its laws: the log's walk
-//! goes as far as the threads have come together, and is refused at the first entry from which its thread has departed.
+//! Runs that follow a log, of any lawful machine without a race: each thread makes its entries of the log, with the
+//! numbers that they have there, whatever the others do meanwhile.
+//!
+//! Its contract: `law_refused`, `law_taken`: how far the log's walk goes.
+//! It knows nothing of what a thread computes.
 #![tactic(auto)]
 
 ghost use Rattle.std.specs.Prelude.{◌≡◌, ◌↔◌, ℕ, ◌++◌, ◌∷◌, [], List, Some, None, slice_get};

@@ -1,5 +1,9 @@
-//! What every crate of Chimera stands on: lists that contracts see as lists, traps, pointer words, and
-//! the outside as traits.
+//! What every crate of Chimera stands on: lists that contracts see as lists, traps, pointer words, and the outside as
+//! traits.
+//!
+//! Its contract: the parts of a pointer word exactly, each trap exactly; what a source, sink or shelf does where it
+//! tells its content, and counts of faults that never fall; `push_numbered` puts a word and a number in decimal.
+//! It knows nothing of threads, C.
 #![tactic(auto)]
 
 mod counts;

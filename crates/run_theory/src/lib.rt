@@ -1,7 +1,9 @@
 //! The theory of runs over any thread language: two steps that change places, a thread's step that leads, merges of
 //! lists of entries, the walk that they stand for, accesses ordered by a lock, in whatever ways its threads hold it,
-//! and what that order means: it is that of the run, and of each other run with the same lists. It stands on
-//! `sync_objects` alone. It promises its laws of every machine that is lawful, whatever its threads compute.
+//! and what that order means: it is that of the run, and of each other run with the same lists.
+//!
+//! Its contract: its laws hold for every lawful machine (`specs/Laws.antt`).
+//! It knows nothing of what a thread computes.
 #![tactic(auto)]
 
 ghost use Rattle.std.specs.Prelude.{◌≡◌, ◌≢◌, ◌<◌, ◌↔◌, ℕ, Bool, true, List, Some, map, length};

@@ -1,5 +1,8 @@
-//! What the walk of a run's log comes to, by what remains of its threads: the log is not walked for it. It stands on `core_run` and
-//! `thread_step`. It promises that its answer is the walk's, where the walk ends as those threads have.
+//! What the walk of a run's log comes to, by what remains of its threads: the log is not walked for it.
+//!
+//! Its contract: `whole_walk`: the walk, made of what the threads have printed, what was kept of their accesses, and
+//! how they have ended.
+//! It knows nothing of how threads are run, and how their entries were put in order.
 #![tactic(auto)]
 
 mod printed;

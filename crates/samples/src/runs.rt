@@ -150,7 +150,7 @@ pub static RUNS: [(&str, &[&str], &str, u8); 14] = [
     ),
 ];
 
-/// The same, in a table of its own, since a function that names one pays for its rows.
+/// The same, in a table of its own, since the proof of a function grows with the rows of each table that it names.
 pub static MORE_RUNS: [(&str, &[&str], &str, u8); 14] = [
     (
         DIVIDES,

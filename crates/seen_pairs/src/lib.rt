@@ -1,5 +1,7 @@
-//! Which functions were seen at work at once: the profile of a walk. It stands on `core_run`, whose steps it makes entry by entry,
-//! and on `profile_book`, which puts pairs in order. It promises exactly the pairs of `specs/Seen.antt`.
+//! Which functions were seen at work at once: the profile of a walk.
+//!
+//! Its contract: `seen_pairs`: exactly their pairs, in order; none where the entries have no walk.
+//! It knows nothing of files, texts of profiles.
 #![tactic(auto)]
 
 ghost use Rattle.std.specs.Prelude.{IfOk};

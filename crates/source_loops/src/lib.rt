@@ -1,5 +1,7 @@
-//! The loops of a source's code are as weak locks need them. It stands on `flow_lower`, `weak_valid` and
-//! `guard_paths`.
+//! The loops of a source's code are as weak locks need them.
+//!
+//! Its contract: `law_loops_are_apart`: their Marks ascend; `law_loops_are_closed`: they are left to their ends.
+//! It knows nothing of how a core tree is made of a source.
 #![tactic(auto)]
 
 mod laws;

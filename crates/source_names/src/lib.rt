@@ -1,5 +1,7 @@
-//! The theorem that the names of a source's functions are texts. It stands on `front` and the crates of sources below it, and knows of no
-//! runs.
+//! The theorem that the names of a source's functions are texts.
+//!
+//! Its contract: `law_names_are_texts`.
+//! It knows nothing of profiles, runs.
 #![tactic(auto)]
 
 mod law;

@@ -1,6 +1,8 @@
-//! The synchronisation objects of a run, what each operation does to its object's word, and the entries of a log
-//! with the setup of their run. It stands on `rr_base`. It promises that `advance` is the table of operations, that
-//! each allowed operation raises the number of its object's word by one, and that words stay sound.
+//! The synchronisation objects of a run, what each operation does to its object's word, and the entries of a log with
+//! the setup of their run.
+//!
+//! Its contract: `advance` is the table of operations (`specs/Table.antt`).
+//! It knows nothing of code, threads' states.
 #![tactic(auto)]
 
 mod entry;

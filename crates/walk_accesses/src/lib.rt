@@ -1,6 +1,9 @@
-//! The accesses of a walk, in the order in which it makes them: the first one that a watch asks for, and the one that a thread
-//! makes at a count. It stands on `core_run`, whose parts of a walk it makes entry by entry, and on `watch_calls`. It promises
-//! what `specs/Accesses.antt` says.
+//! The accesses of a walk, in the order in which it makes them: the first one that a watch asks for, and the one that a
+//! thread makes at a count.
+//!
+//! Its contract: `first_in_walk`: the walk, with the first of its accesses that the watch asks for and the entry in
+//! whose part it is; `access_at`: the one access that a thread makes at a count.
+//! It knows nothing of files, what is told of an access.
 #![tactic(auto)]
 
 mod alone;

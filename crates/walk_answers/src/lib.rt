@@ -1,5 +1,7 @@
-//! What is told of a walk: its answer, and the file of the accesses that it kept. It stands on `core_run`, `job_outcomes` and
-//! `reads_text`. It promises both exactly, and that a log has one walk on a code.
+//! What is told of a walk: its answer, and the file of the accesses that it kept.
+//!
+//! Its contract: `outcome_of`; `law_one_walk`.
+//! It knows nothing of logs' texts.
 #![tactic(auto)]
 
 mod law;

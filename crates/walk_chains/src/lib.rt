@@ -1,5 +1,7 @@
-//! What orders two accesses of a log's walk, as it is told. It stands on `chain_report`, `core_run` and `walk_hits`. It promises the
-//! lines that are told of it, and that a log has one answer for two points on a code.
+//! What orders two accesses of a log's walk, as it is told.
+//!
+//! Its contract: `told_chain`; `law_one_chain`: a log has one answer for two points on a code that can run.
+//! It knows nothing of sources, words.
 #![tactic(auto)]
 
 mod law;

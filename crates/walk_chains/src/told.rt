@@ -6,11 +6,10 @@ ghost use Rattle.walk_chains.specs.Telling.{TellsChain};
 
 use chain_report::{Found, Point, find};
 use core_run::walk;
-use lock_sound::{Weakened, law_weakened_runs};
-use rr_base::push_numbered;
-use order_log::Log;
 use job_outcomes::Outcome;
-use rr_base::{Bytes, List};
+use lock_sound::{Weakened, law_weakened_runs};
+use order_log::Log;
+use rr_base::{Bytes, List, push_numbered};
 use std::alloc::{AllocError, Global};
 use walk_answers::formula_of;
 use walk_hits::answer_of;

@@ -1,5 +1,7 @@
-//! The first access of a log's walk that meets a formula, as it is told. It stands on `core_run`, `walk_accesses` and
-//! `job_outcomes`. It promises the line that is told of it, and that a log has one answer on a code.
+//! The first access of a log's walk that meets a formula, as it is told.
+//!
+//! Its contract: `told_hit`; `law_one_hit`: a log has one answer to a formula on a code.
+//! It knows nothing of sources.
 #![tactic(auto)]
 
 mod law;

@@ -1,6 +1,7 @@
-//! The profile of a log: which functions were at work at once in the walk of its entries. It stands on `core_run`, `seen_pairs`,
-//! `profile_book` and `job_outcomes`. It promises the file that is put and what is told of the walk, and that a log has one profile on
-//! a code.
+//! The profile of a log: which functions were at work at once in the walk of its entries.
+//!
+//! Its contract: `shown_profile`; `law_one_profile`: a log has one on a code.
+//! It knows nothing of sources.
 #![tactic(auto)]
 
 mod law;

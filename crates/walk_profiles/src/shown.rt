@@ -14,8 +14,8 @@ ghost use Rattle.walk_profiles.specs.Profiling.{PutsFor, PutsWalked, ShowsProfil
 use command_line::Answer;
 use core_run::{Walk, walk};
 use flow_code::Code;
-use order_log::Log;
 use job_outcomes::{Outcome, Put};
+use order_log::Log;
 use profile_book::write_profile;
 use profiles::FunctionPairs;
 use rr_base::{Bytes, List};

@@ -1,6 +1,8 @@
-//! Watches: a formula together with the caller's own test of it. It stands on `thread_interpreter`. It promises that a watch
-//! answers at each access exactly whether this meets the formula, and that the first hit in a list is the first access
-//! that does.
+//! Watches: a formula together with the caller's own test of it.
+//!
+//! Its contract: a `Watch` keeps that its test answers its formula; `first_hit` is the position of the first access
+//! that meets it.
+//! It knows nothing of sources, texts of logs.
 #![tactic(auto)]
 
 mod access_test;

@@ -1,5 +1,8 @@
 //! What weak locks rest on: counted loops and the elements that their accesses touch, and the grains at which accesses
-//! are guarded. It has their definitions, and the types of what is found. It stands on `rr_base`, `flow_code` and `facts`.
+//! are guarded. It has their definitions, and the types of what is found.
+//!
+//! Its contract: the definitions of `specs/`.
+//! It knows nothing of how they are found.
 #![tactic(auto)]
 
 mod grain;

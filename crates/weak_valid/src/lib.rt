@@ -1,4 +1,7 @@
-//! The weakened code of a valid code is valid. It stands on `weak_code`, and on the definitions of the analyses.
+//! The weakened code of a valid code is valid.
+//!
+//! Its contract: `law_weakened_code_is_valid`.
+//! It knows nothing of how regions are found.
 #![tactic(auto)]
 
 mod laws;

@@ -10,13 +10,13 @@ ghost use Rattle.weaken.specs.Tables.{shift_in, AreShifts};
 ghost use Rattle.weak_code.specs.WeakLocks as spec;
 
 use crate::locks::locks_of;
-use word_semantics::LibraryCall;
 use facts::{AccessAt, PointsTo};
 use flow_code::{Act, Code};
 use rr_base::{List, Place};
 use std::alloc::{AllocError, Global};
 use weak_code::RacyAccess;
 use weak_lock_facts::{Grained, Range};
+use word_semantics::LibraryCall;
 
 fn through_call(call: &LibraryCall, arguments: &[u32]) -> Option<u32>
     ensures { result ≡ through_of (accesses.library_access call.now arguments.now) }

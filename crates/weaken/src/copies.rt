@@ -2,10 +2,10 @@
 ghost use Rattle.std.specs.Prelude.{◌≡◌, ℕ, IfOk};
 ghost use Rattle.weak_code.specs.Weakened.{retarget};
 
-use word_semantics::LibraryCall;
 use flow_code::Act;
 use rr_base::{Layout, List, Site};
 use std::alloc::{AllocError, Global};
+use word_semantics::LibraryCall;
 
 fn copied_layout(alloc: Global, layout: &Layout) -> Result<Layout, AllocError>
     ensures { IfOk result (λ copy. copy ≡ layout.now) }

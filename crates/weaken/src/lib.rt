@@ -1,6 +1,8 @@
-//! Weak locks put into a code: the regions in which the accesses of its race pairs are guarded, each at its grain, and the
-//! instructions that take and give their locks. It stands on `rr_base`, `flow_code`, `facts`, `weak_lock_facts` and
-//! `weak_code`.
+//! Weak locks put into a code: the regions in which the accesses of its race pairs are guarded, each at its grain, and
+//! the instructions that take and give their locks.
+//!
+//! Its contract: `weaken` is `weakened`, and valid where it is made of the analyses' answers.
+//! It knows nothing of how pairs, ranges and grains were found.
 #![tactic(auto)]
 
 mod access;

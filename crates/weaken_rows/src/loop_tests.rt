@@ -1,7 +1,6 @@
 ghost use Rattle.std.specs.Prelude.{◌≡◌, ℕ, [], ◌<◌, ◌≤◌, length, slice_get, slice_index_or, Some, IfOk};
 ghost use Rattle.flow_code.specs.declared.code.Function.{Function};
 
-use word_semantics::{BinaryOp, LibraryCall};
 use facts::PointsTo;
 use flow_code::{Act, Bound, Code, Function, Instr, LoopInfo, Work};
 use loop_bounds::{counted_loops, ranges};
@@ -10,6 +9,7 @@ use std::alloc::{AllocError, Global};
 use std::process::Abort;
 use std::test::Fail;
 use weak_lock_facts::{LoopAt, Range};
+use word_semantics::{BinaryOp, LibraryCall};
 
 const ORIGIN: Position = Position { line: 1, column: 1 };
 
@@ -467,7 +467,7 @@ static LOOPS: [Row; 10] = [
     },
 ];
 
-// Calls and sums. A function that names a table pays for its rows, so there are three.
+// Calls and sums. The proof of a function grows with the rows of each table that it names, so there are three tables.
 static SUMS: [Row; 10] = [
     // The body assigns the counter.
     Row {

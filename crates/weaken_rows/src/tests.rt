@@ -3,7 +3,6 @@ ghost use Rattle.facts.specs.Pairs.{pairs_ascend};
 ghost use Rattle.flow_code.specs.declared.code.Function.{Function};
 ghost use Rattle.flow_code.specs.Valid as validity;
 
-use word_semantics::{BinaryOp, LibraryCall};
 use facts::{AccessAt, Pair, PointsTo};
 use flow_code::{Act, Base, Bound, Code, Function, Instr, LoopInfo, Region, Span, Work, is_valid};
 use rr_base::{CellKind, Layout, List, Place, Position, PtrWord, Site};
@@ -13,6 +12,7 @@ use std::process::Abort;
 use std::test::Fail;
 use weak_lock_facts::{Grain, Grained, Grains, Range};
 use weaken::weaken;
+use word_semantics::{BinaryOp, LibraryCall};
 
 const START: Position = Position { line: 1, column: 1 };
 

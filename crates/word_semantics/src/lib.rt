@@ -1,5 +1,8 @@
-//! What a source and its code share of the abstract machine on which both run: whole numbers and pointers in words, operators, calls
-//! of the library, and the events of a thread. It stands on `rr_base`, `sync_objects` and `itoa`. Each function is its definition.
+//! What a source and its code share of the abstract machine on which both run: whole numbers and pointers in words,
+//! operators, calls of the library, and the events of a thread. Each function is its definition.
+//!
+//! Its contract: each function is its definition in `specs/`.
+//! It knows nothing of sources, instructions.
 #![tactic(auto)]
 
 mod caller;

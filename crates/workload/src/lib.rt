@@ -1,5 +1,8 @@
 //! A made source of any length, to record and replay: so many functions, which four threads each call one after another
-//! on words that they share. It stands on `rr_base`. It promises the exact text.
+//! on words that they share.
+//!
+//! Its contract: `program_of` is `program_text`.
+//! It knows nothing of what the source does.
 #![tactic(auto)]
 
 mod program;
