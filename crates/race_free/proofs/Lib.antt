@@ -6,3 +6,4 @@ pub mod Sides
 pub mod Holding
 pub mod Meeting
 pub mod Ends
+pub mod Beginnings

@@ -1,5 +1,5 @@
 //! The laws of weakened code's runs.
-ghost use Rattle.std.specs.Prelude.{◌≡◌, ◌<◌, Bool, true, ℕ, List, Some, slice_get};
+ghost use Rattle.std.specs.Prelude.{◌≡◌, ◌<◌, ◌++◌, Bool, true, ℕ, List, Some, slice_get};
 ghost use Rattle.sync_objects.specs.Setup.{SetupView, IsWithinLimits};
 ghost use Rattle.sync_objects.specs.declared.entry.Noted.{Noted};
 ghost use Rattle.sync_objects.specs.declared.object.ObjId.{ObjId};
@@ -93,4 +93,16 @@ pub fn law_prefixes()
         BeginsLike (machine a.weak setup) labels other (start_state a.weak setup) →
         StopsBefore (machine a.weak setup) labels other (start_state a.weak setup) end →
         AreComparable (path (machine a.weak setup) t labels (start_state a.weak setup)) (path (machine a.weak setup) t other (start_state a.weak setup)) }
+{}
+
+/// The first part of a run of weakened code begins like the whole of it, and no thread has gone past the count of its next entry
+/// there: it is what `law_prefixes` asks of two runs.
+pub fn law_first_part()
+    ensures { (a : Analysed) (setup : SetupView) (first more : List Label) (middle end : State Told) →
+        IsAnalysed a →
+        IsWithinLimits setup →
+        run_of a.weak setup first ≡ Some middle →
+        run_of a.weak setup (first ++ more) ≡ Some end →
+        BeginsLike (machine a.weak setup) first (first ++ more) (start_state a.weak setup)
+        × StopsBefore (machine a.weak setup) first (first ++ more) (start_state a.weak setup) middle }
 {}
