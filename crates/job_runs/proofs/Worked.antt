@@ -31,6 +31,7 @@ summary_is_of_run count bytes (answer.SourceRefused number line column) b h = ab
 summary_is_of_run count bytes (answer.LogRefused number line) b h = absurd h
 summary_is_of_run count bytes (answer.ProfileRefused number) b h = absurd h
 summary_is_of_run count bytes (answer.TooLarge what) b h = absurd h
+summary_is_of_run count bytes (answer.CheckpointRefused number place) b h = absurd h
 
 -- ---- results
 

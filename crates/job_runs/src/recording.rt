@@ -17,7 +17,7 @@ use command_line::{Part, RecordJob};
 use crew::{Crew, CrewEnd};
 use happens_before::law_ordered;
 use job_outcomes::{Outcome, Put, Stop, input as whole_input};
-use lock_sound::{Weakened, law_weakened_runs};
+use lock_sound::{Weakened, law_weakened_constants_fit, law_weakened_is_valid};
 use log_limits::law_log_is_within;
 use order_log::{Log, write_log};
 use profiles::Profile;
@@ -49,7 +49,8 @@ fn run<R: Threads + Wait + Sync, C: Crew>(
 {
     let code = weakened.code();
     let _slots = setup.slots();
-    law_weakened_runs();
+    law_weakened_is_valid();
+    law_weakened_constants_fit();
     law_no_race();
     law_ordered();
     law_log_is_within();

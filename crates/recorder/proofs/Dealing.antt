@@ -6,6 +6,7 @@ use Rattle.std.proofs.lemmas.List.{length-append, length-drop}
 use Rattle.std.proofs.lemmas.Option.{same_Some, slice_get_within}
 use Rattle.crew.proofs.Zips.{drop_next}
 use Rattle.sync_objects.specs.declared.entry.Noted.{Noted}
+use Rattle.shared_cells.specs.Plays.{IsReached}
 use Rattle.shared_cells.specs.Rule.{Board}
 use Rattle.shared_cells.specs.Seats.{AreAtStart, AreSeats, IsSeatOf, start_view, view_of}
 use Rattle.shared_cells.specs.declared.seat.Seat.{Seat}
@@ -44,6 +45,7 @@ pub record IsNextSeat (cells : Board) (n : ℕ) (seat : Seat) : Type 0 where
   pub of : IsSeatOf cells seat
   pub number : (view_of seat).from ≡ n
   pub view : view_of seat ≡ start_view cells.code cells.setup (view_of seat).from
+  pub reached : IsReached (view_of seat)
   pub marks : seat.marks ≡ 0
 
 module _ (cells : Board) (seats : List Seat) where
@@ -52,7 +54,7 @@ module _ (cells : Board) (seats : List Seat) where
       let next = drop_next seats n seat rest e in
       let of = are.each n seat next.0 in
       let at = start n seat next.0 in
-      record { of = of.0; number = of.1; view = subst (λ k. view_of seat ≡ start_view cells.code cells.setup k) (sym of.1) at.0; marks = at.2 }
+      record { of = of.0; number = of.1; view = subst (λ k. view_of seat ≡ start_view cells.code cells.setup k) (sym of.1) at.0; reached = at.1; marks = at.2 }
 
 module _ (cells : Board) (budget : ℕ) (seats : List Seat) where
   pub record HasDealt (carriers : List Carrying) (rest : List Seat) : Type 0 where

@@ -1,8 +1,10 @@
 // The log of a run whose threads run as jobs of their own.
-ghost use Rattle.std.specs.Prelude.{◌≡◌, ◌≤◌, IfOk, MatchResult, length};
+ghost use Rattle.std.specs.Prelude.{◌≡◌, ◌≤◌, IfOk, MatchResult, length, true};
 ghost use Rattle.core_run.specs.Histories.{HasNoRace};
 ghost use Rattle.crew.specs.Counts.{CrewFaults, RoseAtLeast, RoseBy};
+ghost use Rattle.flow_code.specs.Constants.{constants_fit};
 ghost use Rattle.flow_code.specs.Settle.{IsRunnable};
+ghost use Rattle.flow_code.specs.Valid.{is_valid};
 ghost use Rattle.recorder.specs.Carriers.{AreCarriers, AreParts};
 ghost use Rattle.recorder.specs.Records.{Records};
 ghost use Rattle.recorder.specs.Finished.{IsFinished};
@@ -42,7 +44,9 @@ fn carriers_of<'c, 'a>(
     budget: u32,
     formula: &Formula,
 ) -> Result<Vec<Carrier<'c, 'a>>, AllocError>
-    requires runnable { IsRunnable cells.now.code }
+    requires valid { is_valid cells.now.code ≡ true }
+    requires constants { constants_fit cells.now.code ≡ true }
+    requires limits { IsWithinLimits cells.now.setup }
     requires seats { AreSeats cells.now seats.items }
     requires start { AreAtStart cells.now.code cells.now.setup seats.items }
     ensures { IfOk result (λ it. AreCarriers cells.now budget it.items) }
@@ -117,7 +121,8 @@ pub fn record_threads<R: Threads + Wait + Sync, C: Crew>(
     formula: &Formula,
     crew: &mut C,
 ) -> Result<Recorded, CrewEnd>
-    requires runnable { IsRunnable code.now }
+    requires valid { is_valid code.now ≡ true }
+    requires constants { constants_fit code.now ≡ true }
     requires race_free { HasNoRace code.now setup.now }
     ensures records { IfOk result (λ it. Records code.now setup.now formula.now it.entries it.walk) }
     ensures jobs_run { IfOk result (λ _. RoseBy setup.now.slots (C.jobs_run crew.old) (C.jobs_run crew.new)) }

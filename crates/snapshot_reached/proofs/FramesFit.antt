@@ -23,10 +23,10 @@ use Rattle.core_run.proofs.Reached.{kept}
 use Rattle.run_theory.specs.Steps.{State}
 use Rattle.snapshots.specs.Conditions.{AllFit, calls, call_goes_on, goes_on, is_called, frame_fits, frames_judged}
 use Rattle.snapshot_reached.proofs.Cells.{both}
-use Rattle.snapshot_reached.proofs.FrameCalls.{shown}
-use Rattle.snapshot_reached.proofs.FrameShapes.{GoesAt, Stands, Running, Called, Chain, stands_at}
-use Rattle.snapshot_reached.proofs.FrameSteps.{Fact}
-use Rattle.snapshot_reached.proofs.FrameRuns.{facts_hold}
+use Rattle.frame_sound.proofs.Calls.{shown}
+use Rattle.frame_sound.proofs.Shapes.{GoesAt, Stands, Running, Called, Chain, stands_at}
+use Rattle.frame_sound.proofs.Steps.{Fact}
+use Rattle.frame_sound.proofs.Runs.{facts_hold}
 
 module _ (code : Code) (s : SetupView) (few : s.slots ≤ 16) where
   -- the frame before as a checkpoint lists it

@@ -10,11 +10,6 @@ pub mod Known
 pub mod Rising
 pub mod Stripes
 pub mod Regions
-pub mod FrameCalls
-pub mod FrameShapes
-pub mod FrameSteps
-pub mod FrameAnswers
-pub mod FrameRuns
 pub mod FramesFit
 pub mod Returns
 pub mod Threads

@@ -11,7 +11,7 @@ ghost use Rattle.rr_base.specs.declared.trap.Trap.{Trap};
 ghost use Rattle.flow_code.specs.declared.thread.Phase.TheVariants as phase;
 ghost use Rattle.thread_interpreter.specs.Parts.{is_loaded, part_of};
 ghost use Rattle.lock_sound.specs.Weakened.{Analysed, IsAnalysed};
-ghost use Rattle.snapshots.specs.Conditions.{AllFit, MeetsConditions, cells_judged, objects_judged, head_fits, stripes_judged, regions_judged};
+ghost use Rattle.snapshots.specs.Conditions.{AllFit, MeetsConditions, cells_judged, objects_judged, head_fits, frames_judged, stripes_judged, regions_judged};
 ghost use Rattle.snapshots.specs.Text.{head_of};
 ghost use Rattle.snapshots.specs.Snapshots.{snapshot_of};
 ghost use Rattle.snapshot_reached.specs.Stored.{CanBeKept, IsStored};
@@ -43,6 +43,16 @@ pub fn law_heads_fit()
         is_loaded told.thread.phase ≡ false →
         ((kind : Trap) (line : ℕ) → told.thread.phase ≡ phase.Trapped kind line → line < 2 ^ 32) →
         head_fits code setup t (head_of t (part_of told.thread)) ≡ true }
+{}
+
+/// Law: the lines of a thread's frames are, where the code is valid.
+pub fn law_frames_fit()
+    ensures { (code : Code) (setup : SetupView) (state : State Told) (t : ℕ) (told : Told) →
+        is_valid code ≡ true →
+        IsWithinLimits setup →
+        IsReachable code setup state →
+        slice_get state.threads t ≡ Some told →
+        AllFit (frames_judged code setup None (part_of told.thread).frames) }
 {}
 
 /// Law: the lines of a thread's stripes are.

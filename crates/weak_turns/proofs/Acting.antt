@@ -1,5 +1,5 @@
 -- What the thread's own next action comes to.
-use Rattle.std.proofs.Common.{◌≡◌, ℕ, None, refl, sym, ap, subst, ◌∙◌, inl, inr, ⊎_elim, arith}
+use Rattle.std.proofs.Common.{◌≡◌, ℕ, None, sym, ap, subst, ◌∙◌, inl, inr, ⊎_elim}
 use Rattle.word_semantics.specs.declared.event.Action.TheVariants as action
 use Rattle.flow_code.specs.Next.{action_at}
 use Rattle.flow_code.specs.Settle.{IsRunnable}
@@ -14,11 +14,7 @@ use Rattle.shared_cells.specs.declared.attempt.Attempt.TheVariants as attempt
 use Rattle.shared_cells.specs.declared.seat.Seat.{Seat}
 use Rattle.thread_step.specs.Steps.{Stepping, next_of}
 use Rattle.weak_turns.specs.Shown.{Carries, IsSettled}
-use Rattle.weak_turns.specs.Turns.{HasMarked}
 use Rattle.weak_turns.proofs.Showing.{acts, settled_in}
-
-pub stays : (old : Seat) → HasMarked old old 0
-stays old = record { view = refl; marks = omega arith }
 
 -- of a thread whose quiet steps are made the next isn't quiet
 pub not_quiet : (v : SeatView) (n : ℕ) (r : Stepping) → Carries v n r → IsRunnable v.code → IsSettled r → next_of r ≡ action.Quiet → ⊥

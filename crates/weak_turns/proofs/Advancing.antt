@@ -1,16 +1,18 @@
 -- A turn that begins with a look at the memory word.
 use Rattle.std.proofs.Common.{◌≡◌, ℕ, Bool, true, false, List, [], ◌∷◌, ◌++◌, Some, None, refl, subst, arith}
+use Rattle.flow_code.specs.Next.{has_ended}
 use Rattle.shared_cells.specs.Rule.{Board}
 use Rattle.shared_cells.specs.Seats.{IsSeatOf, Tells, view_of}
 use Rattle.shared_cells.specs.Views.{Note, looked}
 use Rattle.shared_cells.specs.Words.{memory_place}
 use Rattle.shared_cells.specs.declared.seat.Seat.{Seat}
 use Rattle.thread_step.specs.Steps.{Stepping}
-use Rattle.weak_turns.specs.Finding.{Advances, Steps}
+use Rattle.weak_turns.specs.Finding.{Advances, HasRested, Steps}
 use Rattle.weak_turns.specs.Shown.{IsCarrying}
 use Rattle.weak_turns.specs.Turns.{Meets, Saw}
 use Rattle.weak_turns.specs.declared.played.Played.{Played}
 use Rattle.weak_turns.proofs.Noting.{newer, older, step_on, meets_look, meets_then, carrying_on}
+use Rattle.weak_turns.proofs.Showing.{rested_on}
 use Rattle.weak_turns.proofs.Searching.{set_or_not, unset}
 
 module _ (cells : Board) (a b : Seat) (lacks : Bool) (tells : Tells a b (memory_place cells.code cells.setup) lacks) where
@@ -25,6 +27,14 @@ module _ (cells : Board) (a b : Seat) (lacks : Bool) (tells : Tells a b (memory_
 
   pub carried : (r : Stepping) → IsSeatOf cells b → IsCarrying cells a r → IsCarrying cells b r
   carried r of h = carrying_on cells a b r note looked_at of h
+
+  -- and still does once some of the quiet steps are made
+  pub carried_rested : (r q : Stepping) → IsSeatOf cells b → IsCarrying cells a r → HasRested r q → has_ended r.flow.kept.thread.phase ≡ false → IsCarrying cells b q
+  carried_rested r q of h rests lives = record { seat_of = of; carries = rested_on (view_of b) b.marks r (carried r of h).carries q rests lives }
+
+  -- and once the memory word is set
+  pub carried_out : (c : Seat) (q : Stepping) → IsSeatOf cells c → view_of c ≡ looked (view_of b) word 1 → c.marks ≡ b.marks → IsCarrying cells b q → IsCarrying cells c q
+  carried_out c q of view marks h = carrying_on cells b c q (record { failed = false; word = word; value = 1 } ∷ []) (meets_look b c word 1 view marks) of h
 
   -- the machine was seen to be out of memory
   pub advances_out : (since : List ℕ) (budget turn : ℕ) → lacks ≡ true → Advances cells a b since since budget turn None

@@ -40,9 +40,7 @@ module _ (cells : Board) (a b : Seat) (since : List ℕ) (budget turn : ℕ) whe
   pub finished : (new : Seat) (e : End) (p : Played) → FindsEnd cells a b (Some e) → HasFinished b new e p → Steps cells a new since since budget turn p
   finished new end.Stop (played.Tried o obj came) f h = record { mid = b; fresh = f.fresh; meets = f.meets; step = stopped new o obj came f h }
   finished new end.Close (played.Tried o obj came) f h = record { mid = b; fresh = f.fresh; meets = f.meets; step = closed new o obj came f h }
-  finished new end.Stop played.Nothing f h = absurd h
   finished new end.Stop played.Went f h = absurd h
-  finished new end.Close played.Nothing f h = absurd h
   finished new end.Close played.Went f h = absurd h
 
   module _ (f : FindsEnd cells a b None) (c : Seat) (place : Option LockStripe) (g : FindsRevoke cells b c since budget turn place) where
@@ -74,10 +72,9 @@ module _ (cells : Board) (a b : Seat) (since : List ℕ) (budget turn : ℕ) whe
     no_revoke = no_revoke_on g.fresh (g.fresh ++ f.fresh) (newer g.fresh f.fresh) cells (thread_of c) since budget turn (subst (λ th. NoRevokeIsDue cells th since budget turn g.fresh) (sym (same_thread b c g.fresh g.meets)) g.is);
   }
 
-  acts_so : (f : FindsEnd cells a b None) (c new : Seat) (later : List ℕ) (p : Played) (g : FindsRevoke cells b c since budget turn None) → ActIs cells c new since later turn p → StepIs cells c new since later budget turn (g.fresh ++ f.fresh) p
+  acts_so : (f : FindsEnd cells a b None) (c new : Seat) (later : List ℕ) (p : Played) (g : FindsRevoke cells b c since budget turn None) → ActIs c new since later turn p → StepIs cells c new since later budget turn (g.fresh ++ f.fresh) p
   acts_so f c new later (played.Tried o obj came) g h = (subst (λ w. IsCause w cells c since budget turn (g.fresh ++ f.fresh) o obj) (sym h.0) (is_free f c g, h.1), h.2, h.3)
-  acts_so f c new later played.Nothing g h = (is_free f c g, h)
   acts_so f c new later played.Went g h = (is_free f c g, h)
 
-  pub acted : (f : FindsEnd cells a b None) (c new : Seat) (later : List ℕ) (p : Played) → FindsRevoke cells b c since budget turn None → ActIs cells c new since later turn p → Steps cells a new since later budget turn p
+  pub acted : (f : FindsEnd cells a b None) (c new : Seat) (later : List ℕ) (p : Played) → FindsRevoke cells b c since budget turn None → ActIs c new since later turn p → Steps cells a new since later budget turn p
   acted f c new later p g h = record { mid = c; fresh = g.fresh ++ f.fresh; meets = meets f c None g; step = acts_so f c new later p g h }

@@ -7,6 +7,7 @@ pub mod Moving
 pub mod Noting
 pub mod Ending
 pub mod Searching
+pub mod There
 pub mod Acting
 pub mod Causes
 pub mod Advancing

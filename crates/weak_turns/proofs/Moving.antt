@@ -29,6 +29,7 @@ use Rattle.core_run.proofs.Walked.{kept_more}
 use Rattle.thread_interpreter.specs.Pieces.{piece_next}
 use Rattle.thread_step.specs.Steps.{Stepping, IsSameRun, told_of, next_of, after, reads_after}
 use Rattle.lock_ownership.specs.ThreadStripes.{HasItsStripes}
+use Rattle.shared_cells.specs.Plays.{IsReached}
 use Rattle.shared_cells.specs.Seats.{view_of, place_in, AttemptIs, IsRefused, HasMoved}
 use Rattle.shared_cells.specs.Threads.{Own, way_of, pending, after_by, after_load, after_store, after_operation, IsNext, IsDueIn, IsDueBy}
 use Rattle.shared_cells.specs.Views.{SeatView, looked, missed, with_thread}
@@ -94,7 +95,9 @@ done at old new q o obj answer number a h =
     let seen : SeatView = looked v (place_in v obj) a.seen in
     let now = λ (k : ℕ). after_operation v.code v.setup v.from (pending v old.marks) o obj answer k in
     carries_at (with_thread seen (now (number_of a.seen))) (view_of new) 0 new.marks q a.makes.view a.marks
-    (subst (λ k. Carries (with_thread seen (now k)) 0 q) a.number_is (arrives seen (now number) q h.shows h.stripes))
+    (arrives seen (now (number_of a.seen)) q (subst IsReached a.makes.view a.makes.reached)
+    (subst (λ k. Shows v.code v.setup v.from q (now k)) a.number_is h.shows)
+    (subst (λ k. HasItsStripes (now k).thread) a.number_is h.stripes))
 
 -- ---- steps
 
@@ -185,8 +188,8 @@ module _ (v : SeatView) (n : ℕ) (r : Stepping) (c : Carries v n r) where
       come_if : (a : Action) → next_of r ≡ a → a ≢ action.Ended → settled v.code v.setup v.from told.thread ≡ th
       come_if a e acting = comes v n r c rests (lives_if v n r c a e acting)
 
-      pub loads : (cell w : ℕ) (answer : ℤ) → w < 2 ^ 64 → answer ≡ number w → next_of r ≡ action.Load cell → told_of q ≡ after r.flow.code r.flow.setup r.flow.number (told_of r) (next_of r) answer 0 → q.reads ≡ reads_after r.formula r.flow.number th (next_of r) answer r.reads → Carries (with_thread v (after_load v.code v.setup v.from told cell w)) 0 q
-      loads cell w answer fits is e left kept =
+      pub loads : (cell w : ℕ) (answer : ℤ) → IsReached (with_thread v (after_load v.code v.setup v.from told cell w)) → w < 2 ^ 64 → answer ≡ number w → next_of r ≡ action.Load cell → told_of q ≡ after r.flow.code r.flow.setup r.flow.number (told_of r) (next_of r) answer 0 → q.reads ≡ reads_after r.formula r.flow.number th (next_of r) answer r.reads → Carries (with_thread v (after_load v.code v.setup v.from told cell w)) 0 q
+      loads cell w answer reached fits is e left kept =
           let so = leaves_so (action.Load cell) answer 0 e left in
           let come = come_if (action.Load cell) e (λ f. cc) in
           let reads = λ (z : ℕ) (y : Thread). with_read r.formula (kept_reads r.formula told) (access_of v.from y cell z false) in
@@ -194,19 +197,19 @@ module _ (v : SeatView) (n : ℕ) (r : Stepping) (c : Carries v n r) where
           ∙ ap (λ z. reads z th) (ap word is ∙ of_z-to_z w64 w fits)
           ∙ ap (reads w) (sym come)
           ∙ sym (kept_more r.formula told (stepped v.code v.setup v.from (settled v.code v.setup v.from told.thread) (number w)) (access_of v.from (settled v.code v.setup v.from told.thread) cell w false)) in
-          arrives v (after_load v.code v.setup v.from told cell w) q
+          arrives v (after_load v.code v.setup v.from told cell w) q reached
           (shows_after (after_load v.code v.setup v.from told cell w) (ap (λ (z : Told). z.entries) so ∙ c.shows.entries) (ap (λ (z : Told). z.pieces) so ∙ c.shows.pieces) here
           (inl (ap (settled v.code v.setup v.from) (ap (λ (z : Told). z.thread) so ∙ ap (stepped v.code v.setup v.from th) is ∙ ap (λ z. stepped v.code v.setup v.from z (number w)) (sym come)))))
           (stripes_stepped v.code v.setup v.from told.thread c.stripes (number w))
 
-      pub stores : (cell w : ℕ) → next_of r ≡ action.Store cell w → told_of q ≡ after r.flow.code r.flow.setup r.flow.number (told_of r) (next_of r) (pos 0) 0 → q.reads ≡ reads_after r.formula r.flow.number th (next_of r) (pos 0) r.reads → Carries (with_thread v (after_store v.code v.setup v.from told cell w)) 0 q
-      stores cell w e left kept =
+      pub stores : (cell w : ℕ) → IsReached (with_thread v (after_store v.code v.setup v.from told cell w)) → next_of r ≡ action.Store cell w → told_of q ≡ after r.flow.code r.flow.setup r.flow.number (told_of r) (next_of r) (pos 0) 0 → q.reads ≡ reads_after r.formula r.flow.number th (next_of r) (pos 0) r.reads → Carries (with_thread v (after_store v.code v.setup v.from told cell w)) 0 q
+      stores cell w reached e left kept =
           let so = leaves_so (action.Store cell w) (pos 0) 0 e left in
           let come = come_if (action.Store cell w) e (λ f. cc) in
           let here = kept_so (action.Store cell w) (pos 0) e kept
           ∙ ap (λ (y : Thread). with_read r.formula (kept_reads r.formula told) (access_of v.from y cell w true)) (sym come)
           ∙ sym (kept_more r.formula told (stepped v.code v.setup v.from (settled v.code v.setup v.from told.thread) (pos 0)) (access_of v.from (settled v.code v.setup v.from told.thread) cell w true)) in
-          arrives v (after_store v.code v.setup v.from told cell w) q
+          arrives v (after_store v.code v.setup v.from told cell w) q reached
           (shows_after (after_store v.code v.setup v.from told cell w) (ap (λ (z : Told). z.entries) so ∙ c.shows.entries) (ap (λ (z : Told). z.pieces) so ∙ c.shows.pieces) here
           (inl (ap (settled v.code v.setup v.from) (ap (λ (z : Told). z.thread) so ∙ ap (λ z. stepped v.code v.setup v.from z (pos 0)) (sym come)))))
           (stripes_stepped v.code v.setup v.from told.thread c.stripes (pos 0))
@@ -216,6 +219,7 @@ module _ (v : SeatView) (n : ℕ) (r : Stepping) (c : Carries v n r) where
           let so = leaves_so action.Mark (pos 0) 0 e left in
           let come = come_if action.Mark e (λ f. cc) in
           record {
+            reached = c.reached;
             ahead = (c.ahead, ap (action_at v.code v.setup v.from) come ∙ acts v n r c action.Mark e);
             shows = shows_after (pending v (suc n)) (ap (λ (z : Told). z.entries) so ∙ c.shows.entries) (ap (λ (z : Told). z.pieces) so ∙ c.shows.pieces) (kept_so action.Mark (pos 0) e kept)
                 (inl (ap (settled v.code v.setup v.from) (ap (λ (z : Told). z.thread) so ∙ ap (λ z. stepped v.code v.setup v.from z (pos 0)) (sym come))));

@@ -83,7 +83,6 @@ module _ (xs ys : List Note) (all : Within xs ys) (cells : Board) where
 
   pub step_on : (mid new : Seat) (since later : List ℕ) (budget turn : ℕ) (p : Played) → StepIs cells mid new since later budget turn xs p → StepIs cells mid new since later budget turn ys p
   step_on mid new since later budget turn (played.Tried o obj came) h = (cause_on (way_of o obj) mid since budget turn o obj h.0, h.1, h.2)
-  step_on mid new since later budget turn played.Nothing h = (free_on mid since budget turn h.0, h.1)
   step_on mid new since later budget turn played.Went h = (free_on mid since budget turn h.0, h.1)
 
 -- ---- one seat after another

@@ -13,6 +13,7 @@ use Rattle.core_run.specs.Machine.{Told}
 use Rattle.core_run.specs.Walks.{kept_reads}
 use Rattle.thread_step.specs.Steps.{Stepping, IsSameRun, told_of, next_of}
 use Rattle.lock_ownership.specs.ThreadStripes.{HasItsStripes}
+use Rattle.shared_cells.specs.Plays.{IsReached}
 use Rattle.shared_cells.specs.Threads.{AreMarks, after_marks, own, pending, IsNext}
 use Rattle.shared_cells.specs.Views.{Note, SeatView, with_thread}
 use Rattle.weak_turns.specs.Finding.{HasRested}
@@ -79,14 +80,14 @@ marks_count code s t (suc n) told h =
 
 -- notes change nothing of the thread
 pub noted_on : (v : SeatView) (n : ℕ) (r : Stepping) (ns : List Note) → Carries v n r → Carries (record v { notes = ns }) n r
-noted_on v n r ns c = record { ahead = c.ahead; shows = c.shows; stripes = c.stripes }
+noted_on v n r ns c = record { reached = c.reached; ahead = c.ahead; shows = c.shows; stripes = c.stripes }
 
 pub carries_at : (v w : SeatView) (n m : ℕ) (r : Stepping) → w ≡ v → m ≡ n → Carries v n r → Carries w m r
 carries_at v w n m r e f c = subst (λ z. Carries z m r) (sym e) (subst (λ k. Carries v k r) (sym f) c)
 
 -- the seat's thread has come to a state that the run shows
-pub arrives : (v : SeatView) (told : Told) (q : Stepping) → Shows v.code v.setup v.from q told → HasItsStripes told.thread → Carries (with_thread v told) 0 q
-arrives v told q shows stripes = record { ahead = tt; shows = shows; stripes = stripes }
+pub arrives : (v : SeatView) (told : Told) (q : Stepping) → IsReached (with_thread v told) → Shows v.code v.setup v.from q told → HasItsStripes told.thread → Carries (with_thread v told) 0 q
+arrives v told q reached shows stripes = record { reached = reached; ahead = tt; shows = shows; stripes = stripes }
 
 module _ (v : SeatView) (n : ℕ) (r : Stepping) (c : Carries v n r) where
   abbrev pub th : Thread
@@ -96,10 +97,10 @@ module _ (v : SeatView) (n : ℕ) (r : Stepping) (c : Carries v n r) where
   known = (pending v n).thread
 
   pub told_on : (q : Stepping) → IsSameRun r q → told_of q ≡ told_of r → q.reads ≡ r.reads → Carries v n q
-  told_on q same e kept = record { ahead = c.ahead; shows = shows_told v.code v.setup v.from r q (pending v n) c.shows same e kept; stripes = c.stripes }
+  told_on q same e kept = record { reached = c.reached; ahead = c.ahead; shows = shows_told v.code v.setup v.from r q (pending v n) c.shows same e kept; stripes = c.stripes }
 
   pub rested_on : (q : Stepping) → HasRested r q → has_ended th.phase ≡ false → Carries v n q
-  rested_on q h lives = record { ahead = c.ahead; shows = shows_rested v.code v.setup v.from r q (pending v n) c.shows h lives; stripes = c.stripes }
+  rested_on q h lives = record { reached = c.reached; ahead = c.ahead; shows = shows_rested v.code v.setup v.from r q (pending v n) c.shows h lives; stripes = c.stripes }
 
   pub rested_phase : (q : Stepping) → HasRested r q → q.flow.kept.thread.phase ≡ th.phase
   rested_phase q h = phase_rested v.code v.setup v.from r q (pending v n) c.shows h

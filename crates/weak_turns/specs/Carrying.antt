@@ -1,7 +1,9 @@
 -- A carrier: one thread of a code with its seat.
-use Rattle.std.specs.Prelude.{◌≡◌, ℕ, ◌*◌, ◌≤◌, ◌||◌, Bool, List, length}
+use Rattle.std.specs.Prelude.{◌≡◌, ℕ, ◌*◌, ◌≤◌, ◌||◌, Bool, true, List, length}
+use Rattle.sync_objects.specs.Setup.{IsWithinLimits}
 use Rattle.flow_code.specs.Next.{has_ended}
-use Rattle.flow_code.specs.Settle.{IsRunnable}
+use Rattle.flow_code.specs.Constants.{constants_fit}
+use Rattle.flow_code.specs.Valid.{is_valid}
 use Rattle.shared_cells.specs.Rule.{Board}
 use Rattle.shared_cells.specs.Seats.{view_of}
 use Rattle.shared_cells.specs.declared.seat.Seat.{Seat}
@@ -19,9 +21,11 @@ pub record Carrying : Type 0 where
   pub since : List ℕ
   pub is_out : Bool
 
--- the seat and the run are of one thread of the cells' code, which has made at most one entry in each turn
+-- the seat and the run are of one thread of the cells' code, which is valid; it has made at most one entry in each turn
 pub record IsSound (c : Carrying) : Type 0 where
-  pub runnable : IsRunnable c.cells.code
+  pub valid : is_valid c.cells.code ≡ true
+  pub constants : constants_fit c.cells.code ≡ true
+  pub limits : IsWithinLimits c.cells.setup
   pub carrying : IsCarrying c.cells c.seat c.run
   pub stripes : length c.since ≡ 8 * length c.cells.code.locks
   pub listed : length c.run.entries ≤ c.turns

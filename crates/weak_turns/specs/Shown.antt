@@ -9,6 +9,7 @@ use Rattle.flow_code.specs.Threads.{Thread}
 use Rattle.core_run.specs.Machine.{Told}
 use Rattle.core_run.specs.Walks.{kept_reads}
 use Rattle.lock_ownership.specs.ThreadStripes.{HasItsStripes}
+use Rattle.shared_cells.specs.Plays.{IsReached}
 use Rattle.shared_cells.specs.Rule.{Board}
 use Rattle.shared_cells.specs.Seats.{IsSeatOf, view_of}
 use Rattle.shared_cells.specs.Threads.{AreMarks, own, pending}
@@ -30,8 +31,9 @@ pub record Shows (code : Code) (s : SetupView) (t : ℕ) (r : Stepping) (told : 
   pub reads : r.reads ≡ kept_reads r.formula told
   pub thread : IsSameThread code s t r.flow.kept.thread told.thread
 
--- the next so many actions of a seat's thread are marks, and after them it is what the run shows
+-- a seat's thread is that of a state that can be reached; its next so many actions are marks, and after them it is what the run shows
 pub record Carries (v : SeatView) (marks : ℕ) (r : Stepping) : Type 0 where
+  pub reached : IsReached v
   pub ahead : AreMarks v.code v.setup v.from marks (own v)
   pub shows : Shows v.code v.setup v.from r (pending v marks)
   pub stripes : HasItsStripes (pending v marks).thread

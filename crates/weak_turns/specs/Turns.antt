@@ -155,14 +155,6 @@ AccessIs old new (action.Store c w) = HasCome old new (after_store (view_of old)
 AccessIs old new action.Mark = HasMarked old new 1
 AccessIs old new _ = ⊥
 
--- there is no step: nothing comes next, or what comes next names a cell or an object that the machine doesn't have
-abbrev pub IsStuck : Board → Action → Type 0
-IsStuck cells action.Ended = Unit {0}
-IsStuck cells (action.Load c) = cells_of cells.code cells.setup ≤ c
-IsStuck cells (action.Store c w) = cells_of cells.code cells.setup ≤ c
-IsStuck cells (action.Operate o obj) = has_object cells.code cells.setup obj ≡ false
-IsStuck cells _ = ⊥
-
 -- in which turns the stripes were taken last, after an attempt in this turn
 abbrev pub since_after : List ℕ → (turn : ℕ) → Op → ObjId → Attempt → List ℕ
 since_after since turn op.Take (object.Weak lock stripe) (attempt.Done answer number) = slice_set since (8 * lock + stripe) turn
@@ -170,10 +162,9 @@ since_after since turn op.Retake (object.Weak lock stripe) (attempt.Done answer 
 since_after since turn o obj came = since
 
 -- what the thread's own next action has come to
-abbrev pub ActIs : Board → (old new : Seat) → (since later : List ℕ) → (turn : ℕ) → Played → Type 0
-ActIs cells old new since later turn played.Nothing = (a : Action) × HasNext old a × IsStuck cells a × HasMarked old new 0 × (later ≡ since)
-ActIs cells old new since later turn played.Went = (a : Action) × HasNext old a × AccessIs old new a × (later ≡ since)
-ActIs cells old new since later turn (played.Tried o obj came) = (way_of o obj ≡ Own) × HasNext old (action.Operate o obj) × AttemptIs None old new o obj came × (later ≡ since_after since turn o obj came)
+abbrev pub ActIs : (old new : Seat) → (since later : List ℕ) → (turn : ℕ) → Played → Type 0
+ActIs old new since later turn played.Went = (a : Action) × HasNext old a × AccessIs old new a × (later ≡ since)
+ActIs old new since later turn (played.Tried o obj came) = (way_of o obj ≡ Own) × HasNext old (action.Operate o obj) × AttemptIs None old new o obj came × (later ≡ since_after since turn o obj came)
 
 -- ---- a turn
 
@@ -192,7 +183,7 @@ IsCause (Closes slot) cells mid since budget turn fresh o obj = (slot ≡ number
 -- what is done where the seat stands so, after these words were met
 abbrev pub StepIs : Board → (mid new : Seat) → (since later : List ℕ) → (budget turn : ℕ) → List Note → Played → Type 0
 StepIs cells mid new since later budget turn fresh (played.Tried o obj came) = IsCause (way_of o obj) cells mid since budget turn fresh o obj × AttemptIs None mid new o obj came × (later ≡ since_after since turn o obj came)
-StepIs cells mid new since later budget turn fresh p = IsFree cells mid since budget turn fresh × ActIs cells mid new since later turn p
+StepIs cells mid new since later budget turn fresh played.Went = IsFree cells mid since budget turn fresh × ActIs mid new since later turn played.Went
 
 -- a turn of a thread that hasn't ended, which has seen that there is memory
 pub record Plays (old new : Carrying) (p : Played) : Type 0 where
@@ -212,11 +203,11 @@ pub record Rests (old new : Carrying) : Type 0 where
   pub cause : (is_over old ≡ true) ⊎ SawNoMemory old.cells fresh
   pub since : new.since ≡ old.since
 
--- what a turn has come to
-abbrev pub PlayedIs : (old new : Carrying) → Played → Type 0
-PlayedIs old new played.Nothing = Rests old new ⊎ Plays old new played.Nothing
-PlayedIs old new p = Plays old new p
+-- what a turn has come to: a step, or none of a job that is over
+abbrev pub PlayedIs : (old new : Carrying) → Option Played → Type 0
+PlayedIs old new None = Rests old new
+PlayedIs old new (Some p) = Plays old new p
 
 -- a turn has come to one of these, for its cause
 abbrev pub HasPlayed : (old new : Carrying) → Type 0
-HasPlayed old new = (p : Played) × PlayedIs old new p
+HasPlayed old new = (p : Option Played) × PlayedIs old new p

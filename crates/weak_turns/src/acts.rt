@@ -1,16 +1,18 @@
 // The thread's own next action.
-ghost use Rattle.std.specs.Prelude.{◌≡◌, ◌+◌, ◌<◌, ◌≤◌, false, length};
+ghost use Rattle.std.specs.Prelude.{◌≡◌, ◌+◌, ◌<◌, ◌≤◌, false, length, true};
 ghost use Rattle.word_semantics.specs.declared.event.Action.TheVariants as action;
 ghost use Rattle.core_run.specs.Words.{cells_of};
+ghost use Rattle.flow_code.specs.Constants.{constants_fit};
 ghost use Rattle.flow_code.specs.Next.{has_ended};
-ghost use Rattle.flow_code.specs.Settle.{IsRunnable};
+ghost use Rattle.flow_code.specs.Valid.{is_valid};
+ghost use Rattle.sync_objects.specs.Setup.{IsWithinLimits};
 ghost use Rattle.thread_step.specs.Steps.{IsReady, next_of};
 ghost use Rattle.weak_turns.specs.Shown.{IsCarrying, IsSettled};
 ghost use Rattle.weak_turns.specs.Turns.{AccessIs, ActIs};
 
 use crate::operations::{note_take, operate, tell_want};
 use crate::played::Played;
-use core_run::{Action, has_object};
+use core_run::Action;
 use shared_cells::{Cells, Seat};
 use sync_objects::{ObjId, Op};
 use thread_step::ThreadRun;
@@ -64,7 +66,8 @@ pub fn mark(cells: &Cells, seat: &mut Seat, run: &mut ThreadRun)
     seat.marks += 1;
 }
 
-/// The next action of a thread whose quiet steps are made: a load, a store, a mark, or an operation, which is attempted.
+/// The next action of a thread whose quiet steps are made and that hasn't ended: a load, a store, a mark, or an operation, which is
+/// attempted. In a valid code there is one, and what it names is there.
 pub(crate) fn act(
     cells: &Cells,
     seat: &mut Seat,
@@ -72,27 +75,23 @@ pub(crate) fn act(
     since: &mut [u64],
     turn: u64,
 ) -> Played
-    requires runnable { IsRunnable cells.now.code }
+    requires valid { is_valid cells.now.code ≡ true }
+    requires constants { constants_fit cells.now.code ≡ true }
+    requires limits { IsWithinLimits cells.now.setup }
     requires carrying { IsCarrying cells.now seat.old run.old }
     requires settled { IsSettled run.old }
     requires ready { IsReady run.old }
     requires open { has_ended run.old.flow.kept.thread.phase ≡ false }
     ensures carrying { IsCarrying cells.now seat.new run.new }
     ensures entries { length run.new.entries ≤ length run.old.entries + 1 }
-    ensures act { ActIs cells.now seat.old seat.new since.old since.new turn result }
+    ensures act { ActIs seat.old seat.new since.old since.new turn result }
 {
     match run.next_action() {
         Action::Load { cell } => {
-            if cell >= cells.cell_count() {
-                return Played::Nothing;
-            }
             load(cells, seat, run, cell);
             Played::Went
         }
         Action::Store { cell, value } => {
-            if cell >= cells.cell_count() {
-                return Played::Nothing;
-            }
             store(cells, seat, run, cell, value);
             Played::Went
         }
@@ -101,15 +100,12 @@ pub(crate) fn act(
             Played::Went
         }
         Action::Operate { op, obj } => {
-            if !has_object(cells.code(), cells.setup(), cells.cell_count(), obj) {
-                return Played::Nothing;
-            }
             let came = operate(cells, seat, run, op, obj, None);
             tell_want(cells, seat, op, obj, came);
             note_take(since, turn, op, obj, came);
             Played::Tried { op, obj, came }
         }
-        Action::Ended => Played::Nothing,
         Action::Quiet => unreachable!(),
+        Action::Ended => unreachable!(),
     }
 }

@@ -3,8 +3,11 @@ ghost use Rattle.std.specs.Prelude.{◌≡◌, ◌≤◌, [], IfOk, IsTrue, true
 ghost use Rattle.std.proofs.Common.{refl, ◌∙◌};
 ghost use Rattle.core_run.specs.Machine.{start_told};
 ghost use Rattle.crew.specs.Counts.{RoseBy};
-ghost use Rattle.flow_code.specs.Settle.{IsRunnable};
+ghost use Rattle.flow_code.specs.Constants.{constants_fit};
+ghost use Rattle.flow_code.specs.Valid.{is_valid};
+ghost use Rattle.shared_cells.specs.Plays.{IsReached};
 ghost use Rattle.shared_cells.specs.Seats.{IsSeatOf, start_view, view_of};
+ghost use Rattle.sync_objects.specs.Setup.{IsWithinLimits};
 ghost use Rattle.thread_step.specs.Steps.{told_of};
 ghost use Rattle.weak_turns.specs.Carrying.{IsSameCarrier, IsSound, is_over, run_has_ended};
 ghost use Rattle.weak_turns.specs.Turns.{HasPlayed, PlayedIs};
@@ -51,9 +54,12 @@ impl<'c, 'a> Carrier<'c, 'a> {
         run: ThreadRun<'a>,
         budget: u32,
     ) -> Result<Carrier<'c, 'a>, AllocError>
-        requires runnable { IsRunnable cells.now.code }
+        requires valid { is_valid cells.now.code ≡ true }
+        requires constants { constants_fit cells.now.code ≡ true }
+        requires limits { IsWithinLimits cells.now.setup }
         requires seat { IsSeatOf cells.now seat }
         requires view { view_of seat ≡ start_view cells.now.code cells.now.setup (view_of seat).from }
+        requires reached { IsReached (view_of seat) }
         requires marks { seat.marks ≡ 0 }
         requires code { run.flow.code ≡ cells.now.code }
         requires setup { run.flow.setup ≡ cells.now.setup }
@@ -88,8 +94,9 @@ impl<'c, 'a> Carrier<'c, 'a> {
         (seat, run)
     }
 
-    /// A turn, and what it has come to. Out of memory, it tells all other carriers of these cells.
-    pub fn play(&mut self) -> Played
+    /// A turn, and what it has come to. None where the job is over: its thread had ended, or memory is out, which the memory word
+    /// then tells all other carriers of these cells.
+    pub fn play(&mut self) -> Option<Played>
         ensures same { IsSameCarrier self.old self.new }
         ensures turns { RoseBy 1 self.old.turns self.new.turns }
         ensures stays { is_over self.old ≡ true → is_over self.new ≡ true }
@@ -97,7 +104,7 @@ impl<'c, 'a> Carrier<'c, 'a> {
     {
         self.turns = self.turns.saturating_add(1);
         if self.is_out || self.run.ending().is_some() {
-            return Played::Nothing;
+            return None;
         }
         let advanced = advance(
             self.cells,
@@ -111,10 +118,10 @@ impl<'c, 'a> Carrier<'c, 'a> {
         let entries = self.run.noted().len() as u64;
         prove!(entries <= self.turns);
         match advanced {
-            Some(played) => played,
+            Some(played) => Some(played),
             None => {
                 self.is_out = true;
-                Played::Nothing
+                None
             }
         }
     }
@@ -139,10 +146,12 @@ impl<'c, 'a> Job for Carrier<'c, 'a> {
         ensures played { HasPlayed self.old self.new }
     {
         // a thread that has to wait lets others run
-        if let Played::Tried {
-            came: Attempt::NotYet { .. },
-            ..
-        } = self.play()
+        if let Some(
+            Played::Tried {
+                came: Attempt::NotYet { .. },
+                ..
+            },
+        ) = self.play()
         {
             thread::yield_now();
         }

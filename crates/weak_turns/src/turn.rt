@@ -1,7 +1,9 @@
 // One turn of a thread that hasn't ended.
 ghost use Rattle.std.specs.Prelude.{◌≡◌, ◌+◌, ◌*◌, ◌≤◌, false, length, OnOk, true};
+ghost use Rattle.flow_code.specs.Constants.{constants_fit};
 ghost use Rattle.flow_code.specs.Next.{has_begun, has_ended};
-ghost use Rattle.flow_code.specs.Settle.{IsRunnable};
+ghost use Rattle.flow_code.specs.Valid.{is_valid};
+ghost use Rattle.sync_objects.specs.Setup.{IsWithinLimits};
 ghost use Rattle.thread_step.specs.Steps.{IsReady};
 ghost use Rattle.weak_turns.specs.Finding.{Advances, HasFinished, HasRested, Steps, is_stop};
 ghost use Rattle.weak_turns.specs.Shown.{IsCarrying, IsSettled};
@@ -67,7 +69,9 @@ pub(crate) fn step(
     budget: u32,
     turn: u64,
 ) -> Played
-    requires runnable { IsRunnable cells.now.code }
+    requires valid { is_valid cells.now.code ≡ true }
+    requires constants { constants_fit cells.now.code ≡ true }
+    requires limits { IsWithinLimits cells.now.setup }
     requires carrying { IsCarrying cells.now seat.old run.old }
     requires stripes { length since.old ≡ 8 * length cells.now.code.locks }
     requires settled { IsSettled run.old }
@@ -104,7 +108,9 @@ pub(crate) fn advance(
     budget: u32,
     turn: u64,
 ) -> Option<Played>
-    requires runnable { IsRunnable cells.now.code }
+    requires valid { is_valid cells.now.code ≡ true }
+    requires constants { constants_fit cells.now.code ≡ true }
+    requires limits { IsWithinLimits cells.now.setup }
     requires carrying { IsCarrying cells.now seat.old run.old }
     requires stripes { length since.old ≡ 8 * length cells.now.code.locks }
     requires open { has_ended run.old.flow.kept.thread.phase ≡ false }

@@ -1,11 +1,15 @@
-use Rattle.std.proofs.Common.{sym, subst}
+use Rattle.std.proofs.Common.{◌≡◌, true, sym, subst}
 use Rattle.core_run.specs.Histories.{HasNoRace}
-use Rattle.flow_code.specs.Settle.{IsRunnable}
+use Rattle.flow_code.specs.Constants.{constants_fit}
+use Rattle.flow_code.specs.Valid.{is_valid}
 use Rattle.job_runs.proofs.Recorded.{left_of_run}
 use Rattle.job_runs.proofs.recording.run.Goals as goal
 
-pub record_threads-requires-clause-runnable : goal.record_threads-requires-clause-runnable
-record_threads-requires-clause-runnable g c = λ lifetimes bounds. subst IsRunnable (sym c.code-code.ensures.value) (c.law_weakened_runs.ensures c.args.weakened.now c.code-code.ensures.kept)
+pub record_threads-requires-clause-valid : goal.record_threads-requires-clause-valid
+record_threads-requires-clause-valid g c = λ lifetimes bounds. subst (λ code. is_valid code ≡ true) (sym c.code-code.ensures.value) (c.law_weakened_is_valid.ensures c.args.weakened.now c.code-code.ensures.kept)
+
+pub record_threads-requires-clause-constants : goal.record_threads-requires-clause-constants
+record_threads-requires-clause-constants g c = λ lifetimes bounds. subst (λ code. constants_fit code ≡ true) (sym c.code-code.ensures.value) (c.law_weakened_constants_fit.ensures c.args.weakened.now c.code-code.ensures.kept)
 
 pub record_threads-requires-clause-race_free : goal.record_threads-requires-clause-race_free
 record_threads-requires-clause-race_free g c = λ lifetimes bounds. subst (λ code. HasNoRace code c.args.setup.now) (sym c.code-code.ensures.value) (c.law_no_race.ensures c.args.weakened.now c.args.setup.now c.code-code.ensures.kept c.slots-slots.ensures.within)

@@ -1,10 +1,15 @@
 use Rattle.std.proofs.Common.{◌<◌, length, sym, ap, subst, ◌∙◌, arith}
 use Rattle.std.specs.Vec.Iter.{into_iter_items}
 use Rattle.sync_objects.specs.Setup.{SetupView}
+use Rattle.flow_code.specs.Settle.{IsRunnable}
+use Rattle.flow_code.proofs.Runnable.{valid_runnable}
 use Rattle.core_run.specs.Machine.{start_told}
 use Rattle.shared_cells.specs.Seats.{view_of}
 use Rattle.recorder.proofs.Dealing.{next_seat, deals_more, all_dealt}
 use Rattle.recorder.proofs.threads.carriers_of.Goals as goal
+
+pub new-requires-clause-runnable : goal.new-requires-clause-runnable
+new-requires-clause-runnable c = subst IsRunnable (sym c.code-code.ensures) (valid_runnable c.args.cells.now.code c.requires.valid)
 
 pub new-requires-clause-thread : goal.new-requires-clause-thread
 new-requires-clause-thread c =
@@ -16,6 +21,9 @@ new-requires-in-loop-seat-clause-seat c = (next_seat c.args.cells.now c.args.sea
 
 pub new-requires-in-loop-seat-clause-view : goal.new-requires-in-loop-seat-clause-view
 new-requires-in-loop-seat-clause-view c = (next_seat c.args.cells.now c.args.seats.items _ c.in-Some.seat _ c.requires.seats c.requires.start (sym c.loop-seat.invariant.dealt.rest_is ∙ c.in-Some.ensures.steps.0)).view
+
+pub new-requires-in-loop-seat-clause-reached : goal.new-requires-in-loop-seat-clause-reached
+new-requires-in-loop-seat-clause-reached c = (next_seat c.args.cells.now c.args.seats.items _ c.in-Some.seat _ c.requires.seats c.requires.start (sym c.loop-seat.invariant.dealt.rest_is ∙ c.in-Some.ensures.steps.0)).reached
 
 pub new-requires-in-loop-seat-clause-marks : goal.new-requires-in-loop-seat-clause-marks
 new-requires-in-loop-seat-clause-marks c = (next_seat c.args.cells.now c.args.seats.items _ c.in-Some.seat _ c.requires.seats c.requires.start (sym c.loop-seat.invariant.dealt.rest_is ∙ c.in-Some.ensures.steps.0)).marks

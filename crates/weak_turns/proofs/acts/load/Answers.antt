@@ -1,8 +1,9 @@
-use Rattle.std.proofs.Common.{◌≡◌, ◌∙◌, ap, rules, to_z, of_z}
+use Rattle.std.proofs.Common.{◌≡◌, ◌∙◌, ap, subst, rules, to_z, of_z}
 use Rattle.std.proofs.lemmas.Int.{to_z-of_z}
 use mir.Syntax.{w64}
 use Rattle.word_semantics.specs.Values.{number}
 use Rattle.word_semantics.specs.declared.event.Action.TheVariants as action
+use Rattle.shared_cells.specs.Plays.{IsReached}
 use Rattle.shared_cells.specs.Seats.{view_of}
 use Rattle.shared_cells.specs.Threads.{pending, after_load}
 use Rattle.shared_cells.specs.Views.{with_thread}
@@ -34,5 +35,5 @@ returns-clause-carrying c =
     record {
       seat_of = c.load-word.ensures.seat;
       carries = carries_at (with_thread v (after_load v.code v.setup v.from (pending v n) c.args.cell word)) _ 0 _ q c.load-word.ensures.view c.load-word.ensures.marks
-          (loads v n r c.requires.carrying.carries q c.take_answer.ensures.same c.requires.settled c.args.cell word answer c.load-word.type_inv is c.requires.next left kept);
+          (loads v n r c.requires.carrying.carries q c.take_answer.ensures.same c.requires.settled c.args.cell word answer (subst IsReached c.load-word.ensures.view c.load-word.ensures.reached) c.load-word.type_inv is c.requires.next left kept);
     }

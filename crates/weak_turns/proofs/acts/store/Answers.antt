@@ -1,4 +1,6 @@
+use Rattle.std.proofs.Common.{subst}
 use Rattle.word_semantics.specs.declared.event.Action.TheVariants as action
+use Rattle.shared_cells.specs.Plays.{IsReached}
 use Rattle.shared_cells.specs.Seats.{view_of}
 use Rattle.shared_cells.specs.Threads.{pending, after_store}
 use Rattle.shared_cells.specs.Views.{with_thread}
@@ -24,5 +26,5 @@ returns-clause-carrying c =
     record {
       seat_of = c.store.ensures.seat;
       carries = carries_at (with_thread v (after_store v.code v.setup v.from (pending v n) c.args.cell c.args.value)) _ 0 _ q c.store.ensures.view c.store.ensures.marks
-          (stores v n r c.requires.carrying.carries q c.take_answer.ensures.same c.requires.settled c.args.cell c.args.value c.requires.next c.take_answer.ensures.told c.take_answer.ensures.reads);
+          (stores v n r c.requires.carrying.carries q c.take_answer.ensures.same c.requires.settled c.args.cell c.args.value (subst IsReached c.store.ensures.view c.store.ensures.reached) c.requires.next c.take_answer.ensures.told c.take_answer.ensures.reads);
     }

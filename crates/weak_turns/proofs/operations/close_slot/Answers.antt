@@ -3,7 +3,7 @@ use Rattle.sync_objects.specs.declared.object.ObjId.TheVariants as object
 use Rattle.sync_objects.specs.declared.operation.Op.TheVariants as op
 use Rattle.shared_cells.specs.Seats.{view_of, AttemptIs}
 use Rattle.shared_cells.specs.declared.attempt.Attempt.TheVariants as attempt
-use Rattle.weak_turns.proofs.Moving.{close_due, shuts, done}
+use Rattle.weak_turns.proofs.Moving.{close_due, shuts, done, not_yet}
 use Rattle.weak_turns.proofs.operations.close_slot.Goals as goal
 
 pub attempt_at-requires-clause-due : goal.attempt_at-requires-clause-due
@@ -23,3 +23,9 @@ returns-in-Done-clause-carrying c =
       carries = done c.args.at old c.attempt_at.new.seat q op.Close (object.Slot (view_of old).from) c.in-Done.answer c.in-Done.number came
           (shuts (view_of old) old.marks c.args.run.now h.carries q c.close_slot.ensures.same c.requires.open c.close_slot.ensures.reads c.in-Done.answer c.in-Done.number c.close_slot.ensures.told);
     }
+
+pub returns-in-NotYet-clause-carrying : goal.returns-in-NotYet-clause-carrying
+returns-in-NotYet-clause-carrying c = record {
+  seat_of = c.in-NotYet.ensures.seat;
+  carries = not_yet c.args.at c.args.seat.now c.attempt_at.new.seat c.args.run.now op.Close (object.Slot c.thread.result) c.in-NotYet.seen c.in-NotYet.ensures.is c.requires.carrying.carries;
+}

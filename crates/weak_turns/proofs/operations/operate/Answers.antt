@@ -4,7 +4,7 @@ use mir.Syntax.{w64}
 use Rattle.flow_code.specs.Settle.{IsRunnable}
 use Rattle.shared_cells.specs.Seats.{view_of}
 use Rattle.thread_step.specs.Steps.{told_of, next_of, after, reads_after}
-use Rattle.weak_turns.proofs.Moving.{own_due, is_due, operates, done}
+use Rattle.weak_turns.proofs.Moving.{own_due, is_due, operates, done, not_yet}
 use Rattle.weak_turns.proofs.operations.operate.Goals as goal
 
 pub attempt_at-requires-clause-due : goal.attempt_at-requires-clause-due
@@ -35,3 +35,9 @@ returns-in-Done-clause-carrying c =
       carries = done c.args.at old _ q c.args.op c.args.obj answer number c.in-Done.ensures.is
           (operates v old.marks r h.carries q c.take_answer.ensures.same c.requires.settled c.args.op c.args.obj answer number own.0 c.requires.next left kept);
     }
+
+pub returns-in-NotYet-clause-carrying : goal.returns-in-NotYet-clause-carrying
+returns-in-NotYet-clause-carrying c = record {
+  seat_of = c.in-NotYet.ensures.seat;
+  carries = not_yet c.args.at c.args.seat.now c.attempt_at.new.seat c.args.run.now c.args.op c.args.obj c.in-NotYet.seen c.in-NotYet.ensures.is c.requires.carrying.carries;
+}

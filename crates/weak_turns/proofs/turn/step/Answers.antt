@@ -1,5 +1,6 @@
 use Rattle.std.proofs.Common.{sym, ap, ◌∙◌, arith}
 use Rattle.flow_code.specs.Next.{has_begun}
+use Rattle.flow_code.proofs.Runnable.{valid_runnable}
 use Rattle.shared_cells.specs.Seats.{view_of}
 use Rattle.weak_turns.proofs.Causes.{end_begun, finished, revoked, acted}
 use Rattle.weak_turns.proofs.Moving.{are_alike}
@@ -17,6 +18,11 @@ finish-requires-clause-begun c =
     let old = c.args.seat.now in
     ap has_begun (sym (same_phase (view_of old) old.marks c.args.run.now c.requires.carrying.carries)) ∙ end_begun c.args.cells.now old c.end_due.new.seat c.in-Some.end c.in-Some.ensures.finds
 
+pub finish-requires-clause-carrying : goal.finish-requires-clause-carrying
+finish-requires-clause-carrying c =
+    let f = c.in-Some.ensures.finds in
+    carrying_on c.args.cells.now c.args.seat.now c.end_due.new.seat c.args.run.now f.fresh f.meets c.in-Some.ensures.seat c.requires.carrying
+
 pub returns-in-Some-clause-steps : goal.returns-in-Some-clause-steps
 returns-in-Some-clause-steps c = finished c.args.cells.now c.args.seat.now c.end_due.new.seat c.args.since.now c.args.budget c.args.turn c.finish.new.seat c.in-Some.end c.finish.result c.in-Some.ensures.finds c.finish.ensures.tried
 
@@ -25,6 +31,16 @@ revoke_due-requires-clause-alike c =
     let b = c.end_due.new.seat in
     let f = c.in-None.ensures.finds in
     are_alike (view_of b) b.marks c.args.run.now (carrying_on c.args.cells.now c.args.seat.now b c.args.run.now f.fresh f.meets c.in-None.ensures.seat c.requires.carrying).carries c.requires.settled c.requires.open
+
+pub give_up-came-requires-clause-carrying : goal.give_up-came-requires-clause-carrying
+give_up-came-requires-clause-carrying c =
+    let b = c.end_due.new.seat in
+    let f = c.in-None.ensures.finds in
+    let g = c.in-Some-revoke_due.ensures.finds in
+    carrying_on c.args.cells.now b c.revoke_due.new.seat c.args.run.now g.fresh g.meets c.in-Some-revoke_due.ensures.seat (carrying_on c.args.cells.now c.args.seat.now b c.args.run.now f.fresh f.meets c.in-None.ensures.seat c.requires.carrying)
+
+pub give_up-came-requires-clause-runnable : goal.give_up-came-requires-clause-runnable
+give_up-came-requires-clause-runnable c = valid_runnable c.args.cells.now.code c.requires.valid
 
 pub give_up-came-requires-clause-held : goal.give_up-came-requires-clause-held
 give_up-came-requires-clause-held c =
@@ -54,6 +70,13 @@ give_up-came-requires-clause-revokes c =
 
 pub returns-in-Some-revoke_due-clause-steps : goal.returns-in-Some-revoke_due-clause-steps
 returns-in-Some-revoke_due-clause-steps c = revoked c.args.cells.now c.args.seat.now c.end_due.new.seat c.args.since.now c.args.budget c.args.turn c.in-None.ensures.finds c.revoke_due.new.seat c.give_up-came.new.seat c.in-Some-revoke_due.place c.give_up-came.result c.in-Some-revoke_due.ensures.finds c.give_up-came.ensures.came
+
+pub act-requires-clause-carrying : goal.act-requires-clause-carrying
+act-requires-clause-carrying c =
+    let b = c.end_due.new.seat in
+    let f = c.in-None.ensures.finds in
+    let g = c.in-None-revoke_due.ensures.finds in
+    carrying_on c.args.cells.now b c.revoke_due.new.seat c.args.run.now g.fresh g.meets c.in-None-revoke_due.ensures.seat (carrying_on c.args.cells.now c.args.seat.now b c.args.run.now f.fresh f.meets c.in-None.ensures.seat c.requires.carrying)
 
 pub returns-in-None-revoke_due-clause-steps : goal.returns-in-None-revoke_due-clause-steps
 returns-in-None-revoke_due-clause-steps c = acted c.args.cells.now c.args.seat.now c.end_due.new.seat c.args.since.now c.args.budget c.args.turn c.in-None.ensures.finds c.revoke_due.new.seat c.act.new.seat c.act.new.since c.act.result c.in-None-revoke_due.ensures.finds c.act.ensures.act

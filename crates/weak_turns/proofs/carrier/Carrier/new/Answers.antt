@@ -11,4 +11,4 @@ invariant_of-result c =
     let over = c.loop-k-test.false in
     let most = c.loop-k.auto._k-end in
     let stripes : length c.loop-k.since.items ≡ 8 * length cells.code.locks = omega (arith, count, made, over, most) in
-    sound_start cells c.args.seat c.args.run c.args.budget c.loop-k.since.items c.requires.runnable c.requires.seat c.requires.view c.requires.marks c.requires.code c.requires.setup c.requires.number c.requires.told c.requires.reads stripes
+    sound_start cells c.args.seat c.args.run c.args.budget c.loop-k.since.items c.requires.valid c.requires.constants c.requires.limits c.requires.seat c.requires.view c.requires.reached c.requires.marks c.requires.code c.requires.setup c.requires.number c.requires.told c.requires.reads stripes

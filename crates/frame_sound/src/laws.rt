@@ -1,5 +1,5 @@
 //! Laws of the frames of threads of reached states, over the definitions alone: their functions do nothing.
-ghost use Rattle.std.specs.Prelude.{◌≡◌, ℕ, true, None, Some, is_some, slice_get};
+ghost use Rattle.std.specs.Prelude.{◌≡◌, ℕ, true, Some, is_some, slice_get};
 ghost use Rattle.sync_objects.specs.Setup.{SetupView, IsWithinLimits};
 ghost use Rattle.word_semantics.specs.declared.event.Action.TheVariants as action;
 ghost use Rattle.flow_code.specs.declared.code.Code.{Code};
@@ -8,11 +8,9 @@ ghost use Rattle.flow_code.specs.Next.{has_ended};
 ghost use Rattle.flow_code.specs.Settle.{next, settled};
 ghost use Rattle.flow_code.specs.Threads.{instr_at};
 ghost use Rattle.flow_code.specs.Valid.{is_valid};
-ghost use Rattle.thread_interpreter.specs.Parts.{part_of};
 ghost use Rattle.core_run.specs.Histories.{IsReachable};
 ghost use Rattle.core_run.specs.Machine.{Told};
 ghost use Rattle.run_theory.specs.Steps.{State};
-ghost use Rattle.snapshots.specs.Conditions.{AllFit, frames_judged};
 
 /// Law: a thread that runs stands at an instruction of its function, now and after its quiet steps.
 pub fn law_stands_at_instruction()
@@ -41,14 +39,4 @@ pub fn law_ended_at_last()
         slice_get state.threads t ≡ Some told →
         next code setup t told.thread ≡ action.Ended →
         has_ended told.thread.phase ≡ true }
-{}
-
-/// Law: the lines of a thread's frames are as they must be, where the code is valid.
-pub fn law_frames_fit()
-    ensures { (code : Code) (setup : SetupView) (state : State Told) (t : ℕ) (told : Told) →
-        is_valid code ≡ true →
-        IsWithinLimits setup →
-        IsReachable code setup state →
-        slice_get state.threads t ≡ Some told →
-        AllFit (frames_judged code setup None (part_of told.thread).frames) }
 {}

@@ -12,7 +12,7 @@ use Rattle.sync_objects.specs.declared.kind.ObjKind.{ObjKind}
 use Rattle.sync_objects.specs.declared.kind.ObjKind.TheVariants as kind
 use Rattle.sync_objects.specs.declared.operation.Op.{Op}
 use Rattle.sync_objects.specs.declared.operation.Op.TheVariants as op
-use Rattle.snapshot_reached.proofs.FrameCalls.{OperationAnswers}
+use Rattle.frame_sound.proofs.Calls.{OperationAnswers}
 
 -- what a move answers
 abbrev Says : {S : Type 0} → (ℤ → Type 0) → Move S → Type 0

@@ -40,8 +40,8 @@ use Rattle.flow_code.proofs.Dues.{quiet_by_code, access_by_code, operate_by_code
 use Rattle.flow_code.proofs.Goings.{thread_goes}
 use Rattle.flow_code.proofs.Settle.{settled_keeps}
 use Rattle.snapshots.specs.Conditions.{calls}
-use Rattle.snapshot_reached.proofs.FrameCalls.{Answers, Goes, Stays, stays}
-use Rattle.snapshot_reached.proofs.FrameShapes.{IsThere, next_stands, fits_at, GoesAt, Running, Waiting, Chain, goes_past, goes_to, first_runs, one_more, one_less}
+use Rattle.frame_sound.proofs.Calls.{Answers, Goes, Stays, stays}
+use Rattle.frame_sound.proofs.Shapes.{IsThere, next_stands, fits_at, GoesAt, Running, Waiting, Chain, goes_past, goes_to, first_runs, one_more, one_less}
 
 module _ (code : Code) (valid : is_valid code ≡ true) (s : SetupView) where
   abbrev pub Runs : Frame → Type 0

@@ -1,4 +1,5 @@
--- In each state that a run reaches, the frames of each thread that runs are as the conditions of a checkpoint want them.
+-- In each state that a run reaches, each thread that runs stands at an instruction, and each frame below at a call. A thread to
+-- which no step comes has ended.
 use Rattle.std.proofs.Common.{◌≡◌, ◌≢◌, ℕ, zero, suc, ◌⊎◌, inl, inr, ⊎_elim, true, ℤ, [], Option, Some, None, refl, sym, ap, subst, ◌∙◌}
 use Rattle.std.specs.Prelude.{slice_get, is_some}
 use Rattle.std.proofs.lemmas.Bool.{cases_eq}
@@ -32,11 +33,11 @@ use Rattle.lock_ownership.proofs.Stepping.{Makes, by_itself, by_revoke, by_stop,
 use Rattle.lockset_sound.proofs.RootSteps.{RootOf, ThreadRoot}
 use Rattle.lockset_sound.proofs.RootsInRuns.{roots_hold}
 use Rattle.snapshots.specs.Conditions.{begins}
-use Rattle.snapshot_reached.proofs.FrameCalls.{OperationAnswers, Answers}
-use Rattle.snapshot_reached.proofs.FrameAnswers.{answers}
-use Rattle.snapshot_reached.proofs.FrameShapes.{IsThere, stands_at, may_start_there, main_there}
-use Rattle.snapshot_reached.proofs.FrameSteps.{Fact, Framed, Enters, steps, traps, settles}
-use Rattle.snapshot_reached.proofs.Heads.{root_begins}
+use Rattle.frame_sound.proofs.Calls.{OperationAnswers, Answers}
+use Rattle.frame_sound.proofs.Table.{answers}
+use Rattle.frame_sound.proofs.Shapes.{IsThere, stands_at, may_start_there, main_there}
+use Rattle.frame_sound.proofs.Steps.{Fact, Framed, Enters, steps, traps, settles}
+use Rattle.frame_sound.proofs.Roots.{root_begins}
 
 -- what is due where an operation comes next
 operates : (d : Due) (o : Op) (obj : ObjId) → action_of d ≡ action.Operate o obj → (d ≡ due.Operate o obj) ⊎ ((kind : Trap) × (d ≡ due.Trap kind))

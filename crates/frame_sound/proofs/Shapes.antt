@@ -22,7 +22,7 @@ use Rattle.flow_code.specs.Valid.{is_valid, function_fits}
 use Rattle.flow_code.proofs.ValidParts.{left, function_is_fit, act_is_fit, order_is_fit}
 use Rattle.flow_code.proofs.Shapes.{StandsIn}
 use Rattle.snapshots.specs.Conditions.{calls}
-use Rattle.snapshot_reached.proofs.FrameCalls.{Goes}
+use Rattle.frame_sound.proofs.Calls.{Goes}
 
 -- ---- lists
 
