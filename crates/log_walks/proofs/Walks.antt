@@ -1,8 +1,9 @@
 -- The laws of logs that threads have followed.
-use Rattle.std.proofs.Common.{◌≡◌, ℕ, zero, suc, ◌+◌, ◌<◌, ◌≤◌, List, [], ◌∷◌, ◌++◌, length, Some, None, refl, sym, ap, subst, ◌∙◌, arith, ⊎_elim}
-use Rattle.std.specs.Prelude.{slice_get, take, drop}
+use Rattle.std.proofs.Common.{◌≡◌, ℕ, zero, suc, ◌+◌, ◌-◌, ◌^◌, ◌<◌, ◌≤◌, List, [], ◌∷◌, ◌++◌, length, Some, None, refl, sym, ap, subst, ◌∙◌, arith, ⊎_elim}
+use Rattle.std.specs.Prelude.{slice_get, take, drop, option_and_then}
 use Rattle.std.proofs.lemmas.Bool.{cases_lt}
-use Rattle.std.proofs.lemmas.Option.{get_or_from_slice_get, same_Some}
+use Rattle.std.proofs.lemmas.List.{length-take}
+use Rattle.std.proofs.lemmas.Option.{get_or_from_slice_get, same_Some, slice_get_within}
 use Rattle.sync_objects.specs.Setup.{SetupView, IsWithinLimits}
 use Rattle.sync_objects.specs.Start.{start_word}
 use Rattle.sync_objects.specs.Words.{number_of}
@@ -21,11 +22,14 @@ use Rattle.run_theory.specs.Laws.{IsLawful}
 use Rattle.run_theory.specs.Paths.{IsPrefixOf}
 use Rattle.run_theory.specs.Steps.{State, entries_of, trace}
 use Rattle.run_theory.proofs.Lists.{own_out}
+use Rattle.run_theory.proofs.Solo.{walk-append}
 use Rattle.replay_theory.specs.Following.{EndedRest, Follows, HasMade, IsFresh, LeavesAtLeast}
 use Rattle.replay_theory.specs.Numbered.{numbered, numbered_after, with_number}
-use Rattle.replay_theory.proofs.Whole.{refused, taken}
-use Rattle.log_walks.specs.Followed.{floor, Followed}
+use Rattle.replay_theory.proofs.Whole.{refused, taken, front_taken}
+use Rattle.log_walks.specs.Followed.{floor, HaveCome, Followed}
+use Rattle.log_walks.specs.Known.{IsWrongAt}
 use Rattle.log_walks.proofs.Floors.{ended_rests, leaves_floor}
+use Rattle.log_walks.proofs.KnownWalk.{never_made}
 
 -- ---- lists
 
@@ -82,7 +86,11 @@ module _ (code : Code) (s : SetupView) (runnable : IsRunnable code) (limits : Is
   rests : EndedRest (machine code s)
   rests l told ended = ended_rests code s l told ended
 
-  module _ (es : List Entry) (departure : ℕ) (end : State Told) (f : Followed code s es departure end) (of : AreOf (length end.threads) es) where
+  -- what stands by the log has come to the position
+  abbrev pub come : (es : List Entry) (departure : ℕ) (end : State Told) → Followed code s es departure end → HaveCome code s es departure end
+  come es departure end f = record { labels = f.labels; ran = f.ran; threads = λ t told there. (f.threads t told there).comes }
+
+  module _ (es : List Entry) (departure : ℕ) (end : State Told) (f : HaveCome code s es departure end) (of : AreOf (length end.threads) es) where
     -- what holds of each thread of the state, and of threads that there aren't
     each : (P : ℕ → List Noted → Type 0) → ((t : ℕ) (told : Told) → slice_get end.threads t ≡ Some told → P t told.entries) → ((t : ℕ) → length end.threads ≤ t → P t []) → (t : ℕ) → P t (entries_of t (trace (machine code s) f.labels (start_state code s)))
     each P there beyond t = subst (P t) (list_is code s f.labels end t f.ran) (⊎_elim
@@ -101,26 +109,6 @@ module _ (code : Code) (s : SetupView) (runnable : IsRunnable code) (limits : Is
     has_made : HasMade (machine code s) (take departure es) f.labels (start_state code s)
     has_made = each (λ t xs. IsPrefixOf (entries_of t (numbered (take departure es))) xs) (λ t told there. (f.threads t told there).reached) (λ t more. ([], ap (λ zs. zs ++ []) (none_of (length end.threads) t (take departure es) [] (λ k e is. of k e (in_front es departure k e is)) more)))
 
-    pub wrong : HasNoRace code s → departure < length es → IsRefusedAt code s (start_state code s) es departure
-    wrong free less = go (at es departure less)
-      where
-        go : (e : Entry) × (slice_get es departure ≡ Some e) → IsRefusedAt code s (start_state code s) es departure
-        go x =
-            let e = x.0 in
-            let told = at end.threads e.thread (of departure e x.1) in
-            let stands = f.threads e.thread told.0 told.1 in
-            let departs = stands.departs e x.1 refl in
-            let whole = split es departure e x.1 in
-            let own : entries_of e.thread (trace (machine code s) f.labels (start_state code s)) ≡ entries_of e.thread (numbered (take departure es)) = sym (list_is code s f.labels end e.thread f.ran) ∙ ap list_in told.1 ∙ departs.0 in
-            let r = refused (machine code s) law floor (start_state code s) end f.labels (take departure es) (drop (suc departure) es) e told.0 leaves free fresh f.ran (λ t. subst (λ zs. IsPrefixOf (entries_of t (trace (machine code s) f.labels (start_state code s))) (entries_of t (numbered zs))) (sym whole) (follows t)) has_made own told.1 departs.1 in
-            let n : departure + 1 ≡ suc departure = omega arith in
-            record {
-              within = less;
-              before = r.0;
-              front = r.1;
-              refused = ap (λ k. walk_of code s (take k es) (start_state code s)) n ∙ ap (λ zs. walk_of code s zs (start_state code s)) (one_more es departure e x.1) ∙ r.2;
-            }
-
     all_made : length es ≤ departure → HasMade (machine code s) es f.labels (start_state code s)
     all_made all t = subst (λ zs. IsPrefixOf (entries_of t (numbered zs)) (entries_of t (trace (machine code s) f.labels (start_state code s)))) (all_taken es departure all) (has_made t)
 
@@ -133,3 +121,49 @@ module _ (code : Code) (s : SetupView) (runnable : IsRunnable code) (limits : Is
     unfinished free all going =
         let r = taken (machine code s) law (start_state code s) end f.labels es rests free f.ran follows (all_made all) in
         record { all = refl; last = r.0; walked = r.1; open_end = λ over. going (r.2.0 over) }
+
+    -- the walk takes the entries before the position
+    pub front : HasNoRace code s → departure < length es → (before : State Told) × (walk_of code s (take departure es) (start_state code s) ≡ Some before)
+    front free less =
+        let x = at es departure less in
+        let whole = split es departure x.0 x.1 in
+        front_taken (machine code s) law (start_state code s) end f.labels (take departure es) (x.0 ∷ drop (suc departure) es) free f.ran (λ t. subst (λ zs. IsPrefixOf (entries_of t (trace (machine code s) f.labels (start_state code s))) (entries_of t (numbered zs))) (sym whole) (follows t)) has_made
+
+    -- where the entry there is never allowed, it is refused
+    pub known : HasNoRace code s → length es < 2 ^ 32 - 1 → IsWrongAt s.slots es departure → IsRefusedAt code s (start_state code s) es departure
+    known free few is =
+        let less = slice_get_within es departure is.0 is.1 in
+        let w = front free less in
+        let n : departure + 1 ≡ suc departure = omega arith in
+        record {
+          within = less;
+          before = w.0;
+          front = w.1;
+          refused = ap (λ k. walk_of code s (take k es) (start_state code s)) n
+              ∙ ap (λ zs. walk_of code s zs (start_state code s)) (one_more es departure is.0 is.1)
+              ∙ walk-append (machine code s) (take departure es) (is.0 ∷ []) (start_state code s)
+              ∙ ap (option_and_then (walk_of code s (is.0 ∷ []))) w.1
+              ∙ ap (option_and_then (walk_of code s [])) (never_made code s runnable limits (take departure es) is.0 w.0 (omega (arith, few, length-take departure es)) w.1 is.2);
+        }
+
+  module _ (es : List Entry) (departure : ℕ) (end : State Told) (f : Followed code s es departure end) (of : AreOf (length end.threads) es) where
+    pub wrong : HasNoRace code s → departure < length es → IsRefusedAt code s (start_state code s) es departure
+    wrong free less = go (at es departure less)
+      where
+        go : (e : Entry) × (slice_get es departure ≡ Some e) → IsRefusedAt code s (start_state code s) es departure
+        go x =
+            let e = x.0 in
+            let told = at end.threads e.thread (of departure e x.1) in
+            let stands = f.threads e.thread told.0 told.1 in
+            let c = come es departure end f in
+            let departs = stands.departs e x.1 refl in
+            let whole = split es departure e x.1 in
+            let own : entries_of e.thread (trace (machine code s) f.labels (start_state code s)) ≡ entries_of e.thread (numbered (take departure es)) = sym (list_is code s f.labels end e.thread f.ran) ∙ ap list_in told.1 ∙ departs.0 in
+            let r = refused (machine code s) law floor (start_state code s) end f.labels (take departure es) (drop (suc departure) es) e told.0 leaves free fresh f.ran (λ t. subst (λ zs. IsPrefixOf (entries_of t (trace (machine code s) f.labels (start_state code s))) (entries_of t (numbered zs))) (sym whole) (follows es departure end c of t)) (has_made es departure end c of) own told.1 departs.1 in
+            let n : departure + 1 ≡ suc departure = omega arith in
+            record {
+              within = less;
+              before = r.0;
+              front = r.1;
+              refused = ap (λ k. walk_of code s (take k es) (start_state code s)) n ∙ ap (λ zs. walk_of code s zs (start_state code s)) (one_more es departure e x.1) ∙ r.2;
+            }

@@ -16,17 +16,26 @@ use Rattle.replay_theory.specs.Following.{Departs}
 abbrev pub floor : Entry → ℕ
 floor e = if is_weak e.op then e.count else e.count + 1
 
+-- a thread has made a front part of its entries of the log, at least those before the position
+pub record ComesTo (es : List Entry) (departure t : ℕ) (told : Told) : Type 0 where
+  pub follows : IsPrefixOf told.entries (entries_of t (numbered es))
+  pub reached : IsPrefixOf (entries_of t (numbered (take departure es))) told.entries
+
 module _ (code : Code) (s : SetupView) (es : List Entry) (departure : ℕ) where
-  -- a thread has made a front part of its entries of the log, at least those before the position; where the entry there is its own,
-  -- it has made no more and departs from it
+  -- it has come to the position; where the entry there is its own, it has made no more and departs from it
   pub record StandsBy (words : List ℕ) (t : ℕ) (told : Told) : Type 0 where
-    pub follows : IsPrefixOf told.entries (entries_of t (numbered es))
-    pub reached : IsPrefixOf (entries_of t (numbered (take departure es))) told.entries
+    pub comes : ComesTo es departure t told
     pub departs : (e : Entry) → slice_get es departure ≡ Some e → e.thread ≡ t →
         (told.entries ≡ entries_of t (numbered (take departure es)))
         × Departs (machine code s) floor (entries_of t (numbered (take departure es))) words told (with_number (numbered (take departure es)) e)
 
-  -- a run has led to this state, in which all threads stand so
+  -- a run has led to this state, in which all threads have come to the position
+  pub record HaveCome (end : State Told) : Type 0 where
+    pub labels : List Label
+    pub ran : run_of code s labels ≡ Some end
+    pub threads : (t : ℕ) (told : Told) → slice_get end.threads t ≡ Some told → ComesTo es departure t told
+
+  -- and in which each of them stands so by the log
   pub record Followed (end : State Told) : Type 0 where
     pub labels : List Label
     pub ran : run_of code s labels ≡ Some end

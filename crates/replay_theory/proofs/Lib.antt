@@ -5,3 +5,4 @@ pub mod Words
 pub mod Drawn
 pub mod Refusals
 pub mod Whole
+pub mod Made

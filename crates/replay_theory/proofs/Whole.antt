@@ -45,6 +45,11 @@ module _ {T : Type 0} (m : Machine T) (law : IsLawful m) where
       let no_part : part m e f.mid ≡ None = departs_none m law floor (numbered front) e f.mid end th leads at_end has few floors departs in
       (f.mid, f.walked, walk-append m front (e ∷ []) start ∙ ap (option_and_then (walk m (e ∷ []))) f.walked ∙ ap (option_and_then (walk m [])) no_part)
 
+  pub front_taken : (start end : State T) (labels : List Label) (front back : List Entry) → IsRaceFree m start → run m labels start ≡ Some end → Follows m (front ++ back) labels start → HasMade m front labels start → (before : State T) × (walk m front start ≡ Some before)
+  front_taken start end labels front back free h follows made =
+      let f = fronts m law front back [] labels start end h free follows made in
+      (f.mid, f.walked)
+
   -- where all have ended and nothing is added, nothing was done
   nothing_done : (R : List Label) (s s1 : State T) → run m R s ≡ Some s1 → trace m R s ≡ [] → AllEnded m s1 → s ≡ s1
   nothing_done [] s s1 h tr over = cc

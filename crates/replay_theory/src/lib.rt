@@ -1,7 +1,7 @@
 //! Runs that follow a log, of any lawful machine without a race: each thread makes its entries of the log, with the
 //! numbers that they have there, whatever the others do meanwhile.
 //!
-//! Its contract: `law_refused`, `law_taken`: how far the log's walk goes.
+//! Its contract: `law_refused`, `law_taken`, `law_front`: how far the log's walk goes.
 //! It knows nothing of what a thread computes.
 #![tactic(auto)]
 
@@ -42,4 +42,15 @@ pub fn law_taken<T>()
         Follows machine entries labels start →
         HasMade machine entries labels start →
         (last : State T) × (walk machine entries start ≡ Some last) × (AllEnded machine last ↔ AllEnded machine end) × (AllEnded machine end → last ≡ end) }
+{}
+
+/// Where the threads of a run that follows a log have made the log's first entries, the walk of the log takes these.
+pub fn law_front<T>()
+    ensures { (machine : Machine T) (start end : State T) (labels : List Label) (front back : List Entry) →
+        IsLawful machine →
+        IsRaceFree machine start →
+        run machine labels start ≡ Some end →
+        Follows machine (front ++ back) labels start →
+        HasMade machine front labels start →
+        (before : State T) × (walk machine front start ≡ Some before) }
 {}

@@ -1,6 +1,6 @@
 -- The end of a replay: how the threads of its followers stand by the log.
-use Rattle.std.proofs.Common.{◌≡◌, ◌≢◌, ℕ, zero, suc, ◌-◌, ◌^◌, ◌<◌, ◌≤◌, Bool, true, false, List, [], ◌∷◌, length, take, Option, Some, None, refl, sym, ap, subst, ◌∙◌, ⊎_elim, arith, get_or}
-use Rattle.std.specs.Prelude.{slice_get, ◌||◌, ◌&&◌, nat_le, Contains}
+use Rattle.std.proofs.Common.{◌≡◌, ◌≢◌, ℕ, zero, suc, ◌-◌, ◌^◌, ◌<◌, ◌≤◌, Bool, true, false, List, [], ◌∷◌, length, take, Option, Some, None, refl, sym, ap, subst, ◌∙◌, ⊎_elim, ◌⊎◌, inl, inr, arith, get_or}
+use Rattle.std.specs.Prelude.{slice_get, option_to_list, ◌||◌, ◌&&◌, nat_le, Contains}
 use Rattle.std.specs.List.{AllZip, list_all}
 use Rattle.std.specs.Option.{option_map}
 use Rattle.std.proofs.lemmas.Bool.{cases_eq, leb-true, true≢false}
@@ -22,7 +22,8 @@ use Rattle.core_run.specs.declared.outcome.Walk.TheVariants as walk
 use Rattle.core_run.proofs.Reached.{kept}
 use Rattle.replay_theory.specs.Following.{Departs}
 use Rattle.replay_theory.specs.Numbered.{numbered, with_number}
-use Rattle.log_walks.specs.Followed.{floor, StandsBy, Followed}
+use Rattle.log_walks.specs.Followed.{floor, ComesTo, HaveCome, StandsBy, Followed}
+use Rattle.log_walks.specs.Known.{IsWrongAt}
 use Rattle.run_theory.specs.Paths.{IsPrefixOf}
 use Rattle.run_theory.specs.Steps.{State, entries_of}
 use Rattle.shared_cells.specs.Closing.{Closes}
@@ -44,6 +45,21 @@ use Rattle.replayer.specs.Wants.{wanted_of, noted_in}
 use Rattle.replayer.specs.declared.wanted.Wanted.{Wanted}
 use Rattle.replayer.proofs.Counting.{made_enough, prefix_short, noted_short, take_within, take_beyond}
 use Rattle.replayer.proofs.Listing.{wanted_are, stands_at, reached_by, take_noted, numbered-take, numbered_at, entry_at, length-numbered}
+
+-- ---- positions
+
+-- what a list contains is its first or in the rest
+first_or_rest : (x : ℕ) (xs : List ℕ) (y : ℕ) → Contains (x ∷ xs) y → (x ≡ y) ⊎ Contains xs y
+first_or_rest x xs y c = by c.0 c.1 c.2
+  where
+    by : (k : ℕ) → k < length (x ∷ xs) → get_or (x ∷ xs) k y ≡ y → (x ≡ y) ⊎ Contains xs y
+    by zero less is = inl is
+    by (suc k) less is = inr (k, omega (arith, less), is)
+
+-- what at most one contains is that one
+one_known : (o : Option ℕ) (y : ℕ) → Contains (option_to_list o) y → o ≡ Some y
+one_known None y c = let less = c.1 in absurd (omega (arith, less))
+one_known (Some x) y c = ⊎_elim (λ e. ap Some e) (λ (more : Contains [] y). let less = more.1 in absurd (omega (arith, less))) (first_or_rest x [] y c)
 
 -- ---- one follower
 
@@ -93,20 +109,21 @@ module _ (cells : Board) (es : List Entry) (t : ℕ) (f : Following) (is : IsFol
     pub position : w.position ≡ departure
     pub departs : HasDeparted v (told_at f.seat) w.noted
 
-  pub has_put : (departure : ℕ) → Contains v.positions departure → HasPut departure
+  -- a position that it has put is that of an entry from which it has departed, or the one that was known
+  pub has_put : (departure : ℕ) → Contains v.positions departure → HasPut departure ⊎ (f.known ≡ Some departure)
   has_put departure contains = by f.has_departed track.stands
     where
-      by : (b : Bool) → StandsSo b f → HasPut departure
-      by false s = let none : Contains [] departure = subst (λ ps. Contains ps departure) s.0 contains in absurd (omega (arith, none.1))
-      by true s =
-          let one : Contains (s.0.position ∷ []) departure = subst (λ ps. Contains ps departure) s.2 contains in
-          let k : one.0 ≡ 0 = let lt = one.1 in omega (arith, lt) in
-          record {
+      by : (b : Bool) → StandsSo b f → HasPut departure ⊎ (f.known ≡ Some departure)
+      by false s = inr (one_known f.known departure (subst (λ ps. Contains ps departure) s.0 contains))
+      by true s = ⊎_elim
+          (λ e. inl (record {
             w = s.0;
             next = ap (λ ws. slice_get ws f.made) (sym is.wanted) ∙ s.1;
-            position = ap (λ i. get_or (s.0.position ∷ []) i departure) (sym k) ∙ one.2;
+            position = e;
             departs = s.4;
-          }
+          }))
+          (λ more. inr (one_known f.known departure more))
+          (first_or_rest s.0.position (option_to_list f.known) departure (subst (λ ps. Contains ps departure) s.2 contains))
 
 -- what stands among the first ones stands there
 take_at : {A : Type 0} (n : ℕ) (xs : List A) (k : ℕ) (x : A) → slice_get (take n xs) k ≡ Some x → slice_get xs k ≡ Some x
@@ -277,16 +294,35 @@ module _ (code : Code) (s : SetupView) (cells : Board) (es : List Entry) (seats 
         pub at : slice_get seats t ≡ Some seat
         pub put : Contains (view_of seat).positions d
 
-      pub put_within : (d : ℕ) → IsPutBy d → d < length es
-      put_within d p =
+      -- a thread has departed from its entry at this position
+      pub record IsDepartedBy (d : ℕ) : Type 0 where
+        pub t : ℕ
+        pub seat : Seat
+        pub at : slice_get seats t ≡ Some seat
+        pub o : OfSeat t seat
+        pub put : HasPut cells es t o.f o.is o.sound o.alive d
+
+      -- such a position is known to be wrong where no thread has departed from its entry there
+      who_put : (d : ℕ) → IsPutBy d → IsDepartedBy d ⊎ IsWrongAt s.slots es d
+      who_put d p =
           let o = of_seat p.t p.seat p.at in
-          let q = has_put cells es p.t o.f o.is o.sound o.alive d (subst (λ (z : Seat). Contains (view_of z).positions d) (sym o.seat_is) p.put) in
-          let st = stands_at p.t 0 (numbered es) o.f.made q.w q.next in
+          ⊎_elim
+          (λ q. inl (record { t = p.t; seat = p.seat; at = p.at; o = o; put = q }))
+          (λ known. inr (subst (λ (z : SetupView). IsWrongAt z.slots es d) setup_is (o.is.known d known)))
+          (has_put cells es p.t o.f o.is o.sound o.alive d (subst (λ (z : Seat). Contains (view_of z).positions d) (sym o.seat_is) p.put))
+
+      departed_within : (d : ℕ) → IsDepartedBy d → d < length es
+      departed_within d p =
+          let q = p.put in
+          let st = stands_at p.t 0 (numbered es) p.o.f.made q.w q.next in
           let inside = slice_get_within (numbered es) st.following q.w.noted st.there in
           let long = length-numbered [] es in
           let pos = st.position in
           let same = q.position in
           omega (arith, inside, long, pos, same)
+
+      pub put_within : (d : ℕ) → IsPutBy d → d < length es
+      put_within d p = ⊎_elim (λ q. departed_within d q) (λ w. slice_get_within es d w.0 w.1) (who_put d p)
 
       -- a thread that has departed does so from the last state
       departs_here : (t : ℕ) (seat : Seat) → slice_get seats t ≡ Some seat → (x : Noted) → HasDeparted (view_of seat) (told_at seat) x → Departs (machine code s) floor (told_at seat).entries all_marked.state.words (told_at seat) x
@@ -300,11 +336,11 @@ module _ (code : Code) (s : SetupView) (cells : Board) (es : List Entry) (seats 
       abbrev IsAt : ℕ → Told → Noted → Type 0
       IsAt t told x = (told.entries ≡ entries_of t (numbered (take departure es))) × Departs (machine code s) floor (entries_of t (numbered (take departure es))) all_marked.state.words told x
 
-      departs_at : (t : ℕ) (seat : Seat) → slice_get seats t ≡ Some seat → ((e : Entry) → slice_get es departure ≡ Some e → IsPutBy departure) → (e : Entry) → slice_get es departure ≡ Some e → e.thread ≡ t → IsAt t (told_at seat) (with_number (numbered (take departure es)) e)
+      departs_at : (t : ℕ) (seat : Seat) → slice_get seats t ≡ Some seat → ((e : Entry) → slice_get es departure ≡ Some e → IsDepartedBy departure) → (e : Entry) → slice_get es departure ≡ Some e → e.thread ≡ t → IsAt t (told_at seat) (with_number (numbered (take departure es)) e)
       departs_at t seat at put e there own_is =
           let p = put e there in
-          let o = of_seat p.t p.seat p.at in
-          let q = has_put cells es p.t o.f o.is o.sound o.alive departure (subst (λ (z : Seat). Contains (view_of z).positions departure) (sym o.seat_is) p.put) in
+          let o = p.o in
+          let q = p.put in
           let st = stands_at p.t 0 (numbered es) o.f.made q.w q.next in
           let pos = st.position in
           let same_pos = q.position in
@@ -326,8 +362,8 @@ module _ (code : Code) (s : SetupView) (cells : Board) (es : List Entry) (seats 
           (subst (λ z. IsAt p.t (told_at z) (with_number (numbered (take departure es)) e)) seat_same
           (subst (IsAt p.t (told_at p.seat)) noted (made, d1)))
 
-      pub stands_by : ((e : Entry) → slice_get es departure ≡ Some e → IsPutBy departure) → (t : ℕ) (told : Told) → slice_get all_marked.state.threads t ≡ Some told → StandsBy code s es departure all_marked.state.words t told
-      stands_by put t told e =
+      pub comes_to : (t : ℕ) (told : Told) → slice_get all_marked.state.threads t ≡ Some told → ComesTo es departure t told
+      comes_to t told e =
           let r = seat_at t told e in
           let o = of_seat t r.0 r.1 in
           let met = closes.met t r.0 r.1 in
@@ -336,10 +372,21 @@ module _ (code : Code) (s : SetupView) (cells : Board) (es : List Entry) (seats 
           record {
             follows = subst (λ (z : Told). IsPrefixOf z.entries (entries_of t (numbered es))) same (follows cells es t o.f o.is o.sound o.alive);
             reached = subst (λ (z : Told). IsPrefixOf (entries_of t (numbered (take departure es))) z.entries) same (reached cells es t o.f o.is o.sound o.alive o.over departure low);
+          }
+
+      pub stands_by : ((e : Entry) → slice_get es departure ≡ Some e → IsDepartedBy departure) → (t : ℕ) (told : Told) → slice_get all_marked.state.threads t ≡ Some told → StandsBy code s es departure all_marked.state.words t told
+      stands_by put t told e =
+          let r = seat_at t told e in
+          record {
+            comes = comes_to t told e;
             departs = λ x there own_is. subst (λ (z : Told). IsAt t z (with_number (numbered (take departure es)) x)) (sym r.2) (departs_at t r.0 r.1 put x there own_is);
           }
 
-      pub followed : ((e : Entry) → slice_get es departure ≡ Some e → IsPutBy departure) → Followed code s es departure all_marked.state
+      -- all threads have come to the departure
+      pub have_come : HaveCome code s es departure all_marked.state
+      have_come = record { labels = all_marked.reached.0; ran = all_marked.reached.1; threads = comes_to }
+
+      pub followed : ((e : Entry) → slice_get es departure ≡ Some e → IsDepartedBy departure) → Followed code s es departure all_marked.state
       followed put = record {
         labels = all_marked.reached.0;
         ran = all_marked.reached.1;
@@ -358,7 +405,7 @@ module _ (code : Code) (s : SetupView) (cells : Board) (es : List Entry) (seats 
           closes.put
 
       -- where it was not, there is no entry at its position
-      pub none_put : departure ≡ never → length es < 2 ^ 32 - 1 → (e : Entry) → slice_get es departure ≡ Some e → IsPutBy departure
+      pub none_put : departure ≡ never → length es < 2 ^ 32 - 1 → (e : Entry) → slice_get es departure ≡ Some e → IsDepartedBy departure
       none_put q few e at = let inside = slice_get_within es departure e at in absurd (omega (arith, q, few, inside))
 
       -- a thread whose run hasn't ended hasn't in the state
@@ -414,10 +461,12 @@ module _ (code : Code) (s : SetupView) (cells : Board) (es : List Entry) (seats 
       module _ (free : HasNoRace code s) (small : (k : ℕ) (e : Entry) → slice_get es k ≡ Some e → e.thread < s.slots) where
         -- a departure is where the walk is refused
         pub is_wrong : ((code : Code) (s : SetupView) (es : List Entry) (departure : ℕ) (end : State Told) → IsRunnable code → IsWithinLimits s → HasNoRace code s → Followed code s es departure end → ((k : ℕ) (e : Entry) → slice_get es k ≡ Some e → e.thread < length end.threads) → departure < length es → IsRefusedAt code s (start_state code s) es departure) →
-            departure ≢ never → IsRefusedAt code s (start_state code s) es departure
-        is_wrong law low =
-            let put = lowered_by low in
-            law code s es departure all_marked.state runnable limits free (followed (λ e at. put)) (threads_here small) (put_within departure put)
+            ((code : Code) (s : SetupView) (es : List Entry) (departure : ℕ) (end : State Told) → IsRunnable code → IsWithinLimits s → HasNoRace code s → HaveCome code s es departure end → ((k : ℕ) (e : Entry) → slice_get es k ≡ Some e → e.thread < length end.threads) → length es < 2 ^ 32 - 1 → IsWrongAt s.slots es departure → IsRefusedAt code s (start_state code s) es departure) →
+            departure ≢ never → length es < 2 ^ 32 - 1 → IsRefusedAt code s (start_state code s) es departure
+        is_wrong law law_known low few = ⊎_elim
+            (λ put. law code s es departure all_marked.state runnable limits free (followed (λ e at. put)) (threads_here small) (departed_within departure put))
+            (λ known. law_known code s es departure all_marked.state runnable limits free have_come (threads_here small) few known)
+            (who_put departure (lowered_by low))
 
         -- where nothing has departed and a thread hasn't ended, the walk takes all entries and leaves a thread that hasn't
         pub is_unfinished : ((code : Code) (s : SetupView) (es : List Entry) (departure : ℕ) (end : State Told) → IsRunnable code → IsWithinLimits s → HasNoRace code s → Followed code s es departure end → ((k : ℕ) (e : Entry) → slice_get es k ≡ Some e → e.thread < length end.threads) → length es ≤ departure → (HaveEnded code s end → ⊥) → IsUnfinished code s (start_state code s) es (length es)) →

@@ -1,6 +1,6 @@
 -- A follower's turns keep it sound, and it is so at the start.
-use Rattle.std.proofs.Common.{◌≡◌, ℕ, ◌+◌, ◌<◌, ◌≤◌, Bool, true, false, [], ◌∷◌, ◌++◌, length, take, Some, min, refl, sym, ap, subst, ◌∙◌, inl, inr, add-one, arith}
-use Rattle.std.specs.Prelude.{slice_get, ◌||◌}
+use Rattle.std.proofs.Common.{◌≡◌, ℕ, ◌+◌, ◌<◌, ◌≤◌, Bool, true, false, [], ◌∷◌, ◌++◌, length, take, None, Some, min, refl, sym, ap, subst, ◌∙◌, inl, inr, add-one, arith}
+use Rattle.std.specs.Prelude.{slice_get, option_to_list, ◌||◌}
 use Rattle.std.proofs.lemmas.Bool.{true≢false}
 use Rattle.std.proofs.lemmas.Option.{same_Some, slice_get_within}
 use Rattle.sync_objects.specs.declared.entry.Noted.{Noted}
@@ -13,7 +13,8 @@ use Rattle.shared_cells.specs.declared.seat.Seat.{Seat}
 use Rattle.thread_step.specs.Steps.{Stepping}
 use Rattle.weak_turns.specs.Finding.{HasRested}
 use Rattle.weak_turns.specs.Shown.{Carries, IsCarrying}
-use Rattle.weak_turns.proofs.Showing.{carries_at, same_phase, rested_on, rested_phase}
+use Rattle.weak_turns.specs.Turns.{SawNoMemory}
+use Rattle.weak_turns.proofs.Showing.{carries_at, noted_on, same_phase, rested_on, rested_phase}
 use Rattle.replayer.specs.Following.{Following, IsSound, IsOnTrack, StandsSo, TriedIs, next_of, is_over, positions_after, IsMetBy}
 use Rattle.replayer.specs.Steps.{told_at, left_by, IsInStep, HasDeparted, StepIs, Comes}
 use Rattle.replayer.specs.Wants.{noted_in}
@@ -40,11 +41,28 @@ rested_carrying cells seat run q c h lives = record { seat_of = c.seat_of; carri
 pub rested_lives : (cells : Board) (seat : Seat) (run q : Stepping) → IsCarrying cells seat run → HasRested run q → has_ended run.flow.kept.thread.phase ≡ false → has_ended q.flow.kept.thread.phase ≡ false
 rested_lives cells seat run q c h lives = ap has_ended (rested_phase (view_of seat) seat.marks run c.carries q h) ∙ lives
 
+-- a seat that has put a position shows its thread as before
+pub lowered_on : (v : SeatView) (position found n : ℕ) (r : Stepping) → Carries v n r → Carries (lowered v position found) n r
+lowered_on v position found n r c = record { reached = c.reached; ahead = c.ahead; shows = c.shows; stripes = c.stripes }
+
+-- nor does a look change it, or one at the departure
+pub departing_on : (v : SeatView) (word value n : ℕ) (r : Stepping) → Carries v n r → Carries (departing v word value) n r
+departing_on v word value n r c = record { reached = c.reached; ahead = c.ahead; shows = c.shows; stripes = c.stripes }
+
+pub looked_carrying : (cells : Board) (old mid : Seat) (run : Stepping) (word value : ℕ) → view_of mid ≡ looked (view_of old) word value → mid.marks ≡ old.marks → IsSeatOf cells mid → IsCarrying cells old run → IsCarrying cells mid run
+looked_carrying cells old mid run word value view marks of c = record { seat_of = of; carries = carries_at (looked (view_of old) word value) (view_of mid) old.marks mid.marks run view marks (noted_on (view_of old) old.marks run _ c.carries) }
+
+pub departing_carrying : (cells : Board) (old mid : Seat) (run : Stepping) (word value : ℕ) → view_of mid ≡ departing (view_of old) word value → mid.marks ≡ old.marks → IsSeatOf cells mid → IsCarrying cells old run → IsCarrying cells mid run
+departing_carrying cells old mid run word value view marks of c = record { seat_of = of; carries = carries_at (departing (view_of old) word value) (view_of mid) old.marks mid.marks run view marks (departing_on (view_of old) word value old.marks run c.carries) }
+
+pub lowered_carrying : (cells : Board) (old mid : Seat) (run : Stepping) (position found : ℕ) → view_of mid ≡ lowered (view_of old) position found → mid.marks ≡ old.marks → IsSeatOf cells mid → IsCarrying cells old run → IsCarrying cells mid run
+lowered_carrying cells old mid run position found view marks of c = record { seat_of = of; carries = carries_at (lowered (view_of old) position found) (view_of mid) old.marks mid.marks run view marks (lowered_on (view_of old) position found old.marks run c.carries) }
+
 -- a thread that departs puts the entry's position
 pub departs_tried : (cells : Board) (old s2 s3 s4 : Seat) (run : Stepping) (w : Wanted) (bound found : ℕ) (st : Step) → w.position < bound → st ≡ step.Departs → (v2 : SeatView) → view_of s2 ≡ v2 → v2.from ≡ (view_of old).from → v2.positions ≡ (view_of old).positions → v2.met ≤ bound → told_at s2 ≡ told_at old → Comes cells s2 s3 run w.noted st → IsSeatOf cells s4 → view_of s4 ≡ lowered (view_of s3) w.position found → s4.marks ≡ s3.marks → TriedIs cells old s4 run w (record { bound = bound; step = st })
 departs_tried cells old s2 s3 s4 run w bound found st before is v2 view2 from2 positions2 met2 told2 comes seat4 view4 marks4 =
     subst (λ z. TriedIs cells old s4 run w (record { bound = bound; step = z })) (sym is) (record {
-      carrying = record { seat_of = seat4; carries = carries_at (lowered (view_of s3) w.position found) (view_of s4) s3.marks s4.marks run view4 marks4 (lowered_on (view_of s3) s3.marks run comes.carrying.carries) };
+      carrying = lowered_carrying cells s3 s4 run w.position found view4 marks4 seat4 comes.carrying;
       thread = ap (λ (z : SeatView). z.from) view4 ∙ comes.keeps.thread ∙ ap (λ (z : SeatView). z.from) view2 ∙ from2;
       bound = let m = met3 in let k = met4 in omega (arith, m, k, met2);
       met = let k = met4 in omega (arith, k);
@@ -65,9 +83,6 @@ departs_tried cells old s2 s3 s4 run w bound found st before is v2 view2 from2 p
     met4 : (view_of s4).met ≡ min (view_of s3).met (min found w.position)
     met4 = ap (λ (z : SeatView). z.met) view4
 
-    lowered_on : (v : SeatView) (n : ℕ) (r : Stepping) → Carries v n r → Carries (lowered v w.position found) n r
-    lowered_on v n r c = record { ahead = c.ahead; shows = c.shows; stripes = c.stripes }
-
 -- the thread is as before at a seat that has looked at two words, the second one being that of the departure
 pub looked_twice : (old s1 s2 : Seat) (word value place result : ℕ) → view_of s1 ≡ looked (view_of old) word value → s1.marks ≡ old.marks → view_of s2 ≡ departing (view_of s1) place result → s2.marks ≡ s1.marks → (view_of s2 ≡ departing (looked (view_of old) word value) place result) × (told_at s2 ≡ told_at old)
 looked_twice old s1 s2 word value place result view1 marks1 view2 marks2 =
@@ -81,7 +96,7 @@ pub record IsGoing (f : Following) (w : Wanted) : Type 0 where
   pub track : IsOnTrack f
   pub stays : f.has_departed ≡ false
   pub in_step : IsInStep (told_at f.seat) w.noted
-  pub none : (view_of f.seat).positions ≡ []
+  pub none : (view_of f.seat).positions ≡ option_to_list f.known
   pub alive : f.is_out ≡ false
 
 or_left : (a b : Bool) → (a || b) ≡ false → a ≡ false
@@ -166,3 +181,35 @@ module _ (f : Following) (w : Wanted) (sound : IsSound f) (next : next_of f ≡ 
         bound = is.bound;
         stands = (w, next, put ∙ ap (λ ps. w.position ∷ ps) going.none, met, gone.1);
       }))
+
+-- ---- before the first turn
+
+-- a follower that has put a position, where it has put none before
+pub sound_known : (f : Following) (seat : Seat) (position found : ℕ) → IsSound f → f.known ≡ None → f.has_departed ≡ false → IsSeatOf f.cells seat → view_of seat ≡ lowered (view_of f.seat) position found → seat.marks ≡ f.seat.marks → IsSound (record f { seat = seat; known = Some position })
+sound_known f seat position found sound none stays of_cells view marks = record {
+  runnable = sound.runnable;
+  limits = sound.limits;
+  carrying = lowered_carrying f.cells f.seat seat f.run position found view marks of_cells sound.carrying;
+  own = λ k w e. sound.own k w e ∙ sym (ap (λ (z : SeatView). z.from) view);
+  within = sound.within;
+  few = sound.few;
+  listed = sound.listed;
+  on_track = λ alive. track (sound.on_track alive);
+  cause = λ out. subst (λ (z : SeatView). SawNoMemory f.cells z.notes) (sym view) (sound.cause out);
+}
+  where
+    told : told_at seat ≡ told_at f.seat
+    told = told_by seat (lowered (view_of f.seat) position found) f.seat.marks view marks
+
+    track : IsOnTrack f → IsOnTrack (record f { seat = seat; known = Some position })
+    track t =
+        let st : StandsSo false f = subst (λ b. StandsSo b f) stays t.stands in
+        let now : StandsSo false (record f { seat = seat; known = Some position }) =
+        (ap (λ (z : SeatView). z.positions) view ∙ ap (λ ps. position ∷ ps) (st.0 ∙ ap option_to_list none), λ w e. subst (λ z. IsInStep z w.noted) (sym told) (st.1 w e)) in
+        let low = t.bound in
+        let met = ap (λ (z : SeatView). z.met) view in
+        record {
+          made = ap (λ (z : Told). z.entries) told ∙ t.made;
+          bound = omega (arith, low, met);
+          stands = subst (λ b. StandsSo b (record f { seat = seat; known = Some position })) (sym stays) now;
+        }

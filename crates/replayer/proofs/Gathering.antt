@@ -14,8 +14,10 @@ use Rattle.core_run.specs.Machine.{start_told}
 use Rattle.replay_theory.specs.Numbered.{numbered}
 use Rattle.thread_step.specs.Steps.{Stepping, told_of}
 use Rattle.shared_cells.specs.Rule.{Board}
+use Rattle.shared_cells.specs.Plays.{IsReached}
 use Rattle.shared_cells.specs.Seats.{view_of, IsSeatOf, AreSeats, AreAtStart, start_view}
 use Rattle.shared_cells.specs.declared.seat.Seat.{Seat}
+use Rattle.log_walks.specs.Known.{IsWrongAt}
 use Rattle.replayer.specs.Following.{Following, IsSound, IsSameFollower, is_over}
 use Rattle.replayer.specs.Replays.{IsFollower, AreFollowers, AreFresh, AreDone}
 use Rattle.replayer.specs.Wants.{wanted_from}
@@ -35,7 +37,7 @@ pub record AreMaking (cells : Board) (es : List Entry) (seats : List Seat) (fs :
 pub making_begins : (cells : Board) (es : List Entry) (seats rest : List Seat) → rest ≡ seats → AreMaking cells es seats [] rest
 making_begins cells es seats rest e = record { front = []; split = e; long = refl; each = λ k f q. cc; fresh = λ k f q. cc }
 
-split_last : (fs : List Following) (f : Following) (k : ℕ) (x : Following) → slice_get (fs ++ f ∷ []) k ≡ Some x → (slice_get fs k ≡ Some x) ⊎ ((k ≡ length fs) × (f ≡ x))
+pub split_last : (fs : List Following) (f : Following) (k : ℕ) (x : Following) → slice_get (fs ++ f ∷ []) k ≡ Some x → (slice_get fs k ≡ Some x) ⊎ ((k ≡ length fs) × (f ≡ x))
 split_last [] f zero x e = inr (refl, same_Some f x e)
 split_last [] f (suc k) x e = cc
 split_last (y ∷ ys) f zero x e = inl e
@@ -109,7 +111,7 @@ done_by R cells es fs gs h all leads = record {
         let z = zip_at R fs gs k g all e in
         let f = h.each k z.0 z.1 in
         let same = (leads z.0 g z.2).0 in
-        record { cells_are = same.cells ∙ f.cells_are; thread = same.thread ∙ f.thread; wanted = same.wanted ∙ f.wanted };
+        record { cells_are = same.cells ∙ f.cells_are; thread = same.thread ∙ f.thread; wanted = same.wanted ∙ f.wanted; known = λ p is. f.known p (sym same.known ∙ is) };
   };
   over = λ k g e. let z = zip_at R fs gs k g all e in (leads z.0 g z.2).1;
 }
@@ -142,6 +144,9 @@ module _ (cells : Board) (code : Code) (s : SetupView) (es : List Entry) (seats 
       ∙ ap (λ z. start_view cells.code z (length fs)) (sym setup_is)
       ∙ ap (start_view cells.code cells.setup) (sym from_here)
 
+  pub reached_here : IsReached (view_of seat)
+  reached_here = (start (length fs) seat at).1
+
   pub marks_here : seat.marks ≡ 0
   marks_here = (start (length fs) seat at).2
 
@@ -155,9 +160,10 @@ module _ (cells : Board) (code : Code) (s : SetupView) (es : List Entry) (seats 
   pub own_here : (thread : ℕ) (noted : List Noted) (wanted : List Wanted) → thread ≡ seat.thread → wanted ≡ wanted_from thread 0 noted → (k : ℕ) (w : Wanted) → slice_get wanted k ≡ Some w → w.noted.entry.thread ≡ (view_of seat).from
   own_here thread noted wanted e is k w q = (stands_at thread 0 noted k w (ap (λ ws. slice_get ws k) (sym is) ∙ q)).own ∙ e ∙ thread_from
 
-  pub follower_here : (thread : ℕ) (noted : List Noted) (wanted : List Wanted) (f : Following) → thread ≡ seat.thread → noted ≡ numbered es → wanted ≡ wanted_from thread 0 noted → f.cells ≡ cells → f.seat ≡ seat → f.wanted ≡ wanted → IsFollower cells es (length fs) f
-  follower_here thread noted wanted f e noted_is is cells_are seat_is wanted_is = record {
+  pub follower_here : (thread : ℕ) (noted : List Noted) (wanted : List Wanted) (f : Following) → thread ≡ seat.thread → noted ≡ numbered es → wanted ≡ wanted_from thread 0 noted → f.cells ≡ cells → (view_of f.seat).from ≡ (view_of seat).from → f.wanted ≡ wanted → ((p : ℕ) → f.known ≡ Some p → IsWrongAt cells.setup.slots es p) → IsFollower cells es (length fs) f
+  follower_here thread noted wanted f e noted_is is cells_are from_is wanted_is known = record {
     cells_are = cells_are;
-    thread = ap (λ (z : Seat). (view_of z).from) seat_is ∙ from_here;
+    thread = from_is ∙ from_here;
     wanted = wanted_is ∙ is ∙ ap (wanted_from thread 0) noted_is ∙ ap (λ t. wanted_from t 0 (numbered es)) (e ∙ thread_from ∙ from_here);
+    known = known;
   }

@@ -8,4 +8,5 @@ pub mod Ending
 pub mod Follows
 pub mod Numbers
 pub mod Gathering
+pub mod Lowering
 pub mod Counting

@@ -1,5 +1,5 @@
 -- A thread that follows its entries of a log.
-use Rattle.std.specs.Prelude.{◌≡◌, ℕ, ◌+◌, ◌^◌, nat_le, ◌<◌, ◌≤◌, ◌||◌, Bool, true, false, List, [], ◌∷◌, length, take, Option, Some, None, slice_get}
+use Rattle.std.specs.Prelude.{◌≡◌, ℕ, ◌+◌, ◌^◌, nat_le, ◌<◌, ◌≤◌, ◌||◌, Bool, true, false, List, [], ◌∷◌, length, take, Option, Some, None, option_to_list, slice_get}
 use Rattle.sync_objects.specs.Setup.{IsWithinLimits}
 use Rattle.flow_code.specs.Settle.{IsRunnable}
 use Rattle.shared_cells.specs.Rule.{Board}
@@ -16,7 +16,8 @@ use Rattle.replayer.specs.declared.tried.Tried.{Tried}
 use Rattle.replayer.specs.declared.wanted.Wanted.{Wanted}
 
 -- the cells, the seat and the run of its thread; its entries of the log, and how many of them it has made; the least departure
--- word that it knows of; how many turns there were; whether it has departed, and whether memory ran out
+-- word that it knows of; how many turns there were; whether it has departed, and whether memory ran out; the position that it has
+-- put before its first turn, if it has put one
 pub record Following : Type 0 where
   pub cells : Board
   pub seat : Seat
@@ -27,6 +28,7 @@ pub record Following : Type 0 where
   pub turns : ℕ
   pub has_departed : Bool
   pub is_out : Bool
+  pub known : Option ℕ
 
 -- its next entry
 abbrev pub next_of : Following → Option Wanted
@@ -41,10 +43,10 @@ is_past bound (Some w) = nat_le bound w.position
 abbrev pub is_over : Following → Bool
 is_over f = f.is_out || f.has_departed || is_past f.bound (next_of f)
 
--- whether it has departed from its next entry, whose position it has put then
+-- whether it has departed from its next entry, whose position it has put then, after the one that was known
 abbrev pub StandsSo : Bool → Following → Type 0
-StandsSo false f = ((view_of f.seat).positions ≡ []) × ((w : Wanted) → next_of f ≡ Some w → IsInStep (told_at f.seat) w.noted)
-StandsSo true f = (w : Wanted) × (next_of f ≡ Some w) × ((view_of f.seat).positions ≡ w.position ∷ []) × ((view_of f.seat).met ≤ w.position) × HasDeparted (view_of f.seat) (told_at f.seat) w.noted
+StandsSo false f = ((view_of f.seat).positions ≡ option_to_list f.known) × ((w : Wanted) → next_of f ≡ Some w → IsInStep (told_at f.seat) w.noted)
+StandsSo true f = (w : Wanted) × (next_of f ≡ Some w) × ((view_of f.seat).positions ≡ w.position ∷ option_to_list f.known) × ((view_of f.seat).met ≤ w.position) × HasDeparted (view_of f.seat) (told_at f.seat) w.noted
 
 -- the thread has made the first of its entries of the log, and nothing else
 pub record IsOnTrack (f : Following) : Type 0 where
@@ -69,11 +71,12 @@ abbrev pub made_in : List Following → ℕ
 made_in [] = 0
 made_in (f ∷ fs) = f.made + made_in fs
 
--- both follow the same entries with the same thread of the same cells
+-- both follow the same entries with the same thread of the same cells, and have put the same position before
 pub record IsSameFollower (f later : Following) : Type 0 where
   pub cells : later.cells ≡ f.cells
   pub thread : (view_of later.seat).from ≡ (view_of f.seat).from
   pub wanted : later.wanted ≡ f.wanted
+  pub known : later.known ≡ f.known
 
 -- ---- a turn at an entry
 

@@ -11,6 +11,7 @@ use Rattle.shared_cells.specs.Seats.{view_of}
 use Rattle.shared_cells.specs.declared.seat.Seat.{Seat}
 use Rattle.run_walk.specs.declared.remains.Remains.{Remains}
 use Rattle.run_walk.specs.Remains.{remains_in}
+use Rattle.log_walks.specs.Known.{IsWrongAt, NoneIsWrong}
 use Rattle.replayer.specs.Following.{Following, IsSound, is_over}
 use Rattle.replayer.specs.Wants.{wanted_of}
 
@@ -25,11 +26,13 @@ entries_taken es _ = length es
 
 -- ---- the followers of a log
 
--- thread k of these cells follows its entries of the log
+-- thread k of these cells follows its entries of the log, and a position that it has put before is that of an entry that is never
+-- allowed
 pub record IsFollower (cells : Board) (es : List Entry) (k : ℕ) (f : Following) : Type 0 where
   pub cells_are : f.cells ≡ cells
   pub thread : (view_of f.seat).from ≡ k
   pub wanted : f.wanted ≡ wanted_of k es
+  pub known : (p : ℕ) → f.known ≡ Some p → IsWrongAt cells.setup.slots es p
 
 -- one for each thread, in order
 pub record AreFollowers (cells : Board) (es : List Entry) (fs : List Following) : Type 0 where
@@ -40,6 +43,10 @@ pub record AreFollowers (cells : Board) (es : List Entry) (fs : List Following) 
 -- they have had no turn yet
 abbrev pub AreFresh : List Following → Type 0
 AreFresh fs = (k : ℕ) (f : Following) → slice_get fs k ≡ Some f → f.turns ≡ 0
+
+-- where the log has an entry that is never allowed, the follower of the first one's thread has put its position before any turn
+abbrev pub HaveLowered : SetupView → List Entry → List Following → Type 0
+HaveLowered s es fs = (p : ℕ) (e : Entry) (f : Following) → IsWrongAt s.slots es p → NoneIsWrong s.slots es p → slice_get es p ≡ Some e → slice_get fs e.thread ≡ Some f → f.known ≡ Some p
 
 -- they have come to their end
 pub record AreDone (cells : Board) (es : List Entry) (fs : List Following) : Type 0 where

@@ -1,9 +1,10 @@
 // A thread that follows a log, as a job.
-ghost use Rattle.std.specs.Prelude.{◌≡◌, ◌^◌, ◌<◌, [], false, length, Some, slice_get, ℕ};
+ghost use Rattle.std.specs.Prelude.{◌≡◌, ◌^◌, ◌<◌, [], false, length, None, Some, slice_get, ℕ};
 ghost use Rattle.std.proofs.Common.{refl, ◌∙◌};
 ghost use Rattle.core_run.specs.Machine.{start_told};
 ghost use Rattle.flow_code.specs.Next.{has_ended};
 ghost use Rattle.flow_code.specs.Settle.{IsRunnable};
+ghost use Rattle.shared_cells.specs.Plays.{IsReached};
 ghost use Rattle.shared_cells.specs.Seats.{IsSeatOf, start_view, view_of};
 ghost use Rattle.sync_objects.specs.Setup.{IsWithinLimits};
 ghost use Rattle.thread_step.specs.Steps.{told_of};
@@ -35,6 +36,8 @@ pub struct Follower<'c, 'a> {
     turns: u64,
     has_departed: bool,
     is_out: bool,
+    // The position that it has put before its first turn.
+    known: Option<u32>,
 }
 
 impl<'c, 'a> Model for Follower<'c, 'a> {
@@ -42,9 +45,9 @@ impl<'c, 'a> Model for Follower<'c, 'a> {
 
     ghost Value = { Following };
 
-    ghost view = { λ f. record { cells = f.cells.now; seat = f.seat; run = f.run; wanted = f.wanted; made = f.made; bound = f.bound; turns = f.turns; has_departed = f.has_departed; is_out = f.is_out } };
+    ghost view = { λ f. record { cells = f.cells.now; seat = f.seat; run = f.run; wanted = f.wanted; made = f.made; bound = f.bound; turns = f.turns; has_departed = f.has_departed; is_out = f.is_out; known = f.known } };
 
-    ghost invariant = { λ f. IsSound (record { cells = f.cells.now; seat = f.seat; run = f.run; wanted = f.wanted; made = f.made; bound = f.bound; turns = f.turns; has_departed = f.has_departed; is_out = f.is_out }) };
+    ghost invariant = { λ f. IsSound (record { cells = f.cells.now; seat = f.seat; run = f.run; wanted = f.wanted; made = f.made; bound = f.bound; turns = f.turns; has_departed = f.has_departed; is_out = f.is_out; known = f.known }) };
 }
 
 impl<'c, 'a> Follower<'c, 'a> {
@@ -59,6 +62,7 @@ impl<'c, 'a> Follower<'c, 'a> {
         requires limits { IsWithinLimits cells.now.setup }
         requires seat { IsSeatOf cells.now seat }
         requires view { view_of seat ≡ start_view cells.now.code cells.now.setup (view_of seat).from }
+        requires reached { IsReached (view_of seat) }
         requires marks { seat.marks ≡ 0 }
         requires code { run.flow.code ≡ cells.now.code }
         requires setup { run.flow.setup ≡ cells.now.setup }
@@ -71,6 +75,8 @@ impl<'c, 'a> Follower<'c, 'a> {
         ensures seat { result.seat ≡ seat }
         ensures wanted { result.wanted ≡ wanted }
         ensures turns { result.turns ≡ 0 }
+        ensures known { result.known ≡ None }
+        ensures stays { result.has_departed ≡ false }
     {
         Follower {
             cells,
@@ -82,7 +88,22 @@ impl<'c, 'a> Follower<'c, 'a> {
             turns: 0,
             has_departed: false,
             is_out: false,
+            known: None,
         }
+    }
+
+    /// Lowers the departure word to the position of an entry that is known to be wrong before any turn.
+    pub fn put_known(&mut self, position: u32)
+        requires none { self.old.known ≡ None }
+        requires stays { self.old.has_departed ≡ false }
+        ensures cells { self.new.cells ≡ self.old.cells }
+        ensures thread { (view_of self.new.seat).from ≡ (view_of self.old.seat).from }
+        ensures wanted { self.new.wanted ≡ self.old.wanted }
+        ensures turns { self.new.turns ≡ self.old.turns }
+        ensures known { self.new.known ≡ Some position }
+    {
+        self.cells.least(&mut self.seat, position);
+        self.known = Some(position);
     }
 
     /// Whether memory ran out, so that nothing is known of the log. That the follower is sound is told here too.
@@ -159,9 +180,9 @@ impl<'c, 'a> Job for Follower<'c, 'a> {
 
     ghost leads_to = { λ f later. IsSameFollower f later };
 
-    ghost reflexive = { λ f. record { cells = refl; thread = refl; wanted = refl } };
+    ghost reflexive = { λ f. record { cells = refl; thread = refl; wanted = refl; known = refl } };
 
-    ghost transitive = { λ first second third one two. record { cells = two.cells ∙ one.cells; thread = two.thread ∙ one.thread; wanted = two.wanted ∙ one.wanted } };
+    ghost transitive = { λ first second third one two. record { cells = two.cells ∙ one.cells; thread = two.thread ∙ one.thread; wanted = two.wanted ∙ one.wanted; known = two.known ∙ one.known } };
 
     fn turn(&mut self) -> bool {
         self.turns = self.turns.saturating_add(1);

@@ -1,15 +1,15 @@
 // The replay of a log.
-ghost use Rattle.std.specs.Prelude.{◌≡◌, ◌-◌, ◌<◌, ◌≤◌, ◌^◌, false, IfOk, MatchResult, List, length, map};
+ghost use Rattle.std.specs.Prelude.{◌≡◌, ◌-◌, ◌<◌, ◌≤◌, ◌^◌, ℕ, false, IfOk, IfSome, MatchResult, List, None, Some, length, map, slice_get};
 ghost use Rattle.std.specs.List.{list_all};
 ghost use Rattle.core_run.specs.Histories.{HasNoRace};
 ghost use Rattle.core_run.specs.Walks.{WalkIs};
 ghost use Rattle.crew.specs.Counts.{CrewFaults, RoseAtLeast, RoseBy};
 ghost use Rattle.flow_code.specs.Settle.{IsRunnable};
 ghost use Rattle.shared_cells.specs.Rule.{Board};
-ghost use Rattle.shared_cells.specs.Seats.{AreAtStart, AreSeats};
+ghost use Rattle.shared_cells.specs.Seats.{AreAtStart, AreSeats, view_of};
 ghost use Rattle.sync_objects.specs.declared.entry.Entry.{Entry as EntryOf};
 ghost use Rattle.replayer.specs.Following.{Following, made_in};
-ghost use Rattle.replayer.specs.Replays.{AreDone, AreFollowers, AreFresh, AreThreads, AreWhole, HaveFollowed, entries_taken, has_ended_in};
+ghost use Rattle.replayer.specs.Replays.{AreDone, AreFollowers, AreFresh, AreThreads, AreWhole, HaveFollowed, HaveLowered, entries_taken, has_ended_in};
 ghost use Rattle.run_walk.specs.Remains.{remains_in};
 
 use crate::follower::Follower;
@@ -17,7 +17,7 @@ use crate::numbering::{number_all, own_entries};
 use core_run::Walk;
 use crew::{Crew, CrewEnd};
 use flow_code::Code;
-use log_walks::{law_unfinished, law_whole, law_wrong};
+use log_walks::{known_wrong, law_known, law_unfinished, law_whole, law_wrong};
 use rr_base::List;
 use run_walk::{Remains, into_remains, whole_walk};
 use shared_cells::{Cells, Seat};
@@ -28,7 +28,32 @@ use sync_objects::{Entry, Setup};
 use thread_interpreter::Formula;
 use thread_step::ThreadRun;
 
-// A follower for each seat, in order.
+// The follower, which lowers the departure word first where the entry that is known to be wrong is of its thread.
+fn with_known<'c, 'a>(
+    mut follower: Follower<'c, 'a>,
+    thread: u8,
+    entries: &List<Entry>,
+    wrong: Option<u32>,
+) -> Follower<'c, 'a>
+    requires none { follower.known ≡ None }
+    requires stays { follower.has_departed ≡ false }
+    requires inside { IfSome wrong (λ at. at < length entries.now) }
+    ensures cells { result.cells ≡ follower.entry.cells }
+    ensures thread { (view_of result.seat).from ≡ (view_of follower.entry.seat).from }
+    ensures wanted { result.wanted ≡ follower.entry.wanted }
+    ensures turns { result.turns ≡ follower.entry.turns }
+    ensures known { (p : ℕ) → result.known ≡ Some p → wrong ≡ Some p }
+    ensures lowers { (p : ℕ) (e : EntryOf) → wrong ≡ Some p → slice_get entries.now p ≡ Some e → e.thread ≡ thread → result.known ≡ Some p }
+{
+    if let Some(at) = wrong {
+        if entries.at(at as usize).thread == thread {
+            follower.put_known(at);
+        }
+    }
+    follower
+}
+
+// A follower for each seat, in order. The departure word is lowered already where an entry is known to be wrong.
 fn followers<'c, 'a>(
     alloc: Global,
     cells: &'c Cells<'a>,
@@ -44,16 +69,24 @@ fn followers<'c, 'a>(
     requires seats { AreSeats cells.now seats.items }
     requires start { AreAtStart code.now setup.now seats.items }
     requires few { length entries.now < 2 ^ 32 - 1 }
+    requires threads { AreThreads setup.now entries.now }
     ensures followers { IfOk result (λ it. AreFollowers cells.now entries.now it.items) }
     ensures fresh { IfOk result (λ it. AreFresh it.items) }
+    ensures known { IfOk result (λ it. HaveLowered setup.now entries.now it.items) }
 {
+    let wrong = known_wrong(alloc, setup, entries)?;
     let noted = number_all(alloc, entries)?;
     let mut jobs = Vec::with_capacity(alloc, usize::from(setup.slots()))?;
     for seat in seats {
         let thread = seat.thread();
         let run = ThreadRun::new(alloc, code, setup, thread, *formula)?;
         let wanted = own_entries(alloc, noted.as_slice(), thread)?;
-        jobs.push(Follower::new(cells, seat, run, wanted))?;
+        jobs.push(with_known(
+            Follower::new(cells, seat, run, wanted),
+            thread,
+            entries,
+            wrong,
+        ))?;
     }
     Ok(jobs)
 }
@@ -156,6 +189,7 @@ fn conclude(
     let closed = cells.close(alloc, seats)?;
     if closed.departure != u32::MAX {
         law_wrong();
+        law_known();
         return Ok(Walk::Wrong {
             at: closed.departure,
         });

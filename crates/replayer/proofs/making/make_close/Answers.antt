@@ -6,7 +6,7 @@ use Rattle.sync_objects.specs.declared.object.ObjId.TheVariants as object
 use Rattle.sync_objects.specs.declared.operation.Op.TheVariants as op
 use Rattle.replayer.specs.Steps.{Sees}
 use Rattle.replayer.specs.declared.sight.Sight.TheVariants as sight
-use Rattle.replayer.proofs.Attempts.{is_barred}
+use Rattle.replayer.proofs.Attempts.{is_barred, look_carries, waits}
 use Rattle.replayer.proofs.Seated.{no_close, closes, phase_here, limits_here, looked_set, tried}
 use Rattle.replayer.proofs.making.make_close.Goals as goal
 
@@ -37,3 +37,9 @@ returns-in-Open c =
     tried _ _ _ _ c.requires.set mid c.close_slot.new.seat c.close_slot.new.run op.Close (object.Slot (view_of mid).from) c.look_at.result c.close_slot.result c.came_to.result sees
     (closes _ _ _ _ set c.requires.count c.requires.label c.requires.name slot (sym c.has_begun.ensures ∙ c.if-has_begun.false))
     c.close_slot.ensures.carrying c.close_slot.ensures.came c.came_to.ensures
+
+pub close_slot-requires-clause-carrying : goal.close_slot-requires-clause-carrying
+close_slot-requires-clause-carrying c = look_carries c.args.seat.now c.look_at.new.seat op.Close (object.Slot c.args.next.entry.thread) c.args.next.number c.look_at.result c.look_at.ensures.sees c.args.cells.now c.args.run.now c.look_at.ensures.seat c.requires.set.carrying
+
+pub returns-in-Elsewhere : goal.returns-in-Elsewhere
+returns-in-Elsewhere c = waits c.args.cells.now c.args.seat.now c.look_at.new.seat c.args.run.now c.args.next op.Close (object.Slot c.args.next.entry.thread) c.look_at.result c.look_at.ensures.sees c.look_at.ensures.seat c.requires.set.carrying

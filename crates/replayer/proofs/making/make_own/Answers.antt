@@ -2,7 +2,7 @@ use Rattle.std.proofs.Common.{◌≡◌, true, false, sym, subst, ◌∙◌}
 use Rattle.std.proofs.lemmas.Bool.{true≢false}
 use Rattle.sync_objects.specs.Names.{name_of}
 use Rattle.core_run.specs.Words.{has_object}
-use Rattle.replayer.proofs.Attempts.{is_barred}
+use Rattle.replayer.proofs.Attempts.{is_barred, look_carries, waits}
 use Rattle.replayer.proofs.Seated.{mismatch, operates, operates_range, operates_fits, limits_here, looked_set, tried, has_read}
 use Rattle.replayer.proofs.making.make_own.Goals as goal
 
@@ -54,3 +54,9 @@ returns-in-Open c =
     tried _ _ _ _ c.requires.set mid c.operate.new.seat c.operate.new.run o obj c.look_at.result c.operate.result c.came_to.result c.look_at.ensures.sees
     (operates _ _ _ _ set c.requires.count c.requires.runnable o obj (sym c.next_action.ensures ∙ c.in-Operate.is) has c.requires.label (c.has_name.ensures.0 c.if-not-has_name.false) (sym (c.is_at.ensures.0 c.if-not-is_at.false)))
     c.operate.ensures.carrying c.operate.ensures.came c.came_to.ensures
+
+pub operate-requires-clause-carrying : goal.operate-requires-clause-carrying
+operate-requires-clause-carrying c = look_carries c.args.seat.now c.look_at.new.seat c.in-Operate.op c.in-Operate.obj c.args.next.number c.look_at.result c.look_at.ensures.sees c.args.cells.now c.args.run.now c.look_at.ensures.seat c.requires.set.carrying
+
+pub returns-in-Elsewhere : goal.returns-in-Elsewhere
+returns-in-Elsewhere c = waits c.args.cells.now c.args.seat.now c.look_at.new.seat c.args.run.now c.args.next c.in-Operate.op c.in-Operate.obj c.look_at.result c.look_at.ensures.sees c.look_at.ensures.seat c.requires.set.carrying

@@ -3,7 +3,7 @@ use Rattle.std.proofs.lemmas.Bool.{true≢false}
 use Rattle.core_run.specs.Words.{has_object}
 use Rattle.sync_objects.specs.declared.object.ObjId.TheVariants as object
 use Rattle.sync_objects.specs.declared.operation.Op.TheVariants as op
-use Rattle.replayer.proofs.Attempts.{is_barred}
+use Rattle.replayer.proofs.Attempts.{is_barred, look_carries, waits}
 use Rattle.replayer.proofs.Seated.{no_revoke, may_here, has_here, revokes, limits_here, looked_set, tried, has_read}
 use Rattle.replayer.proofs.making.make_revoke.Goals as goal
 
@@ -34,3 +34,9 @@ returns-in-Open c =
     tried _ _ _ _ c.requires.set mid c.give_up.new.seat c.give_up.new.run op.Revoke obj c.look_at.result c.give_up.result c.came_to.result c.look_at.ensures.sees
     (revokes _ _ _ _ set c.requires.count c.args.lock c.args.stripe c.requires.label c.requires.name c.requires.object has (sym c.may_revoke.ensures ∙ c.if-not-may_revoke.false))
     c.give_up.ensures.carrying c.give_up.ensures.came c.came_to.ensures
+
+pub give_up-requires-clause-carrying : goal.give_up-requires-clause-carrying
+give_up-requires-clause-carrying c = look_carries c.args.seat.now c.look_at.new.seat op.Revoke (object.Weak c.args.lock c.args.stripe) c.args.next.number c.look_at.result c.look_at.ensures.sees c.args.cells.now c.args.run.now c.look_at.ensures.seat c.requires.set.carrying
+
+pub returns-in-Elsewhere : goal.returns-in-Elsewhere
+returns-in-Elsewhere c = waits c.args.cells.now c.args.seat.now c.look_at.new.seat c.args.run.now c.args.next op.Revoke (object.Weak c.args.lock c.args.stripe) c.look_at.result c.look_at.ensures.sees c.look_at.ensures.seat c.requires.set.carrying

@@ -3,7 +3,7 @@ use Rattle.std.proofs.lemmas.Bool.{true≢false}
 use Rattle.flow_code.specs.Next.{has_begun, has_ended}
 use Rattle.sync_objects.specs.declared.object.ObjId.TheVariants as object
 use Rattle.sync_objects.specs.declared.operation.Op.TheVariants as op
-use Rattle.replayer.proofs.Attempts.{is_barred}
+use Rattle.replayer.proofs.Attempts.{is_barred, look_carries, waits}
 use Rattle.replayer.proofs.Seated.{no_stop, stops, phase_here, limits_here, looked_set, tried}
 use Rattle.replayer.proofs.making.make_stop.Goals as goal
 
@@ -28,3 +28,9 @@ returns-in-Open c =
     tried _ _ _ _ c.requires.set mid c.stop.new.seat c.stop.new.run op.Stop object.Halt c.look_at.result c.stop.result c.came_to.result c.look_at.ensures.sees
     (stops _ _ _ _ set c.requires.count c.requires.label c.requires.name (c.is_at.ensures.0 c.if-not-is_at.false) (sym c.has_begun.ensures ∙ c.if-not-has_begun.false))
     c.stop.ensures.carrying c.stop.ensures.came c.came_to.ensures
+
+pub stop-requires-clause-carrying : goal.stop-requires-clause-carrying
+stop-requires-clause-carrying c = look_carries c.args.seat.now c.look_at.new.seat op.Stop object.Halt c.args.next.number c.look_at.result c.look_at.ensures.sees c.args.cells.now c.args.run.now c.look_at.ensures.seat c.requires.set.carrying
+
+pub returns-in-Elsewhere : goal.returns-in-Elsewhere
+returns-in-Elsewhere c = waits c.args.cells.now c.args.seat.now c.look_at.new.seat c.args.run.now c.args.next op.Stop object.Halt c.look_at.result c.look_at.ensures.sees c.look_at.ensures.seat c.requires.set.carrying

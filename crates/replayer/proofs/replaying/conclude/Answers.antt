@@ -22,7 +22,7 @@ returns-then-closed-clause-walk c =
     let words = c.in_ok-closed.closed.words.items in
     let closes : Closes code s seats words d = subst (λ z. Closes code z seats words d) c.requires.setup (subst (λ z. Closes z c.args.cells.setup seats words d) c.requires.code c.in_ok-closed.ensures) in
     let limits = subst IsWithinLimits c.requires.setup c.requires.followed.done.followers.limits in
-    (d, omega arith, inl (is_wrong code s c.args.cells c.args.entries.now seats c.args.gathered.remains.items c.args.gathered.all_ended c.requires.followed c.requires.code c.requires.setup words d closes c.requires.runnable limits c.requires.race_free c.requires.threads c.law_wrong.ensures c.if-closed.true))
+    (d, omega arith, inl (is_wrong code s c.args.cells c.args.entries.now seats c.args.gathered.remains.items c.args.gathered.all_ended c.requires.followed c.requires.code c.requires.setup words d closes c.requires.runnable limits c.requires.race_free c.requires.threads c.law_wrong.ensures c.law_known.ensures c.if-closed.true c.requires.few))
 
 pub returns-then-not-all_ended-clause-walk : goal.returns-then-not-all_ended-clause-walk
 returns-then-not-all_ended-clause-walk c =
