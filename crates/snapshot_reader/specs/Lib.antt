@@ -1,0 +1,5 @@
+pub mod Made
+pub mod Misfits
+pub mod Reading
+pub mod Tallies
+pub mod Traps
