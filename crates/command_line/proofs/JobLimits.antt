@@ -7,8 +7,8 @@ use Rattle.std.proofs.lemmas.Option.{same_Some}
 use Rattle.thread_interpreter.specs.declared.access.Formula.{Formula}
 use Rattle.command_line.specs.Arguments.{Argument, value_of, number_within, number_or}
 use Rattle.command_line.specs.Events.{HasEventLimits, event_named, is_point}
-use Rattle.command_line.specs.Jobs.{Asked, asked_of, chain_of, record_of, HasLimits, told}
-use Rattle.command_line.specs.Jobs.Asked.{Races, Weaken, Replay, Profile, Watch, Chain, Make}
+use Rattle.command_line.specs.Jobs.{Asked, asked_of, chain_of, record_of, replay_of, HasLimits, told}
+use Rattle.command_line.specs.Jobs.Asked.{Races, Weaken, Replay, Profile, Watch, Chain, Checkpoint, Resume, Make}
 use Rattle.command_line.specs.Predicates.{accesses_asked}
 use Rattle.command_line.specs.declared.command.Command.{Command}
 use Rattle.command_line.specs.declared.command.Command.TheVariants as command
@@ -86,14 +86,26 @@ of_chain source log one other a e =
     let j = found _ _ a i.gives in
     subst HasLimits (same_Some (Chain source log i.value j.value) a j.gives) (of_event one i.value i.is, of_event other j.value j.is)
 
+of_replay : (source log : List ℕ) (reads checkpoint : Option (List ℕ)) (a : Asked) → replay_of source log reads checkpoint ≡ Some a → HasLimits a
+of_replay source log reads None a e = subst HasLimits (same_Some (Replay source log reads) a e) tt
+of_replay source log None (Some name) a e = subst HasLimits (same_Some (Resume source log name) a e) tt
+of_replay source log (Some reads) (Some name) a e = cc
+
+of_checkpoint : (o : Option ℕ) (source log count name : List ℕ) (a : Asked) → o ≡ number_within 0 16777312 count → option_map (λ n. Checkpoint source log n name) o ≡ Some a → HasLimits a
+of_checkpoint None source log count name a is e = cc
+of_checkpoint (Some n) source log count name a is e =
+    let b = within 0 16777312 count n (sym is) in
+    subst HasLimits (same_Some (Checkpoint source log n name) a e) b.below
+
 of_asked : (c : Command) (words : List (List ℕ)) (given : List Argument) (a : Asked) → asked_of c words given ≡ Some a → HasLimits a
 of_asked command.Races (source ∷ []) given a e = subst HasLimits (same_Some (Races source) a e) tt
 of_asked command.Weaken (source ∷ []) given a e = subst HasLimits (same_Some (Weaken source (value_of (codes "profile") given)) a e) tt
 of_asked command.Record (source ∷ log ∷ []) given a e = of_record source log given a e
-of_asked command.Replay (source ∷ log ∷ []) given a e = subst HasLimits (same_Some (Replay source log (value_of (codes "reads") given)) a e) tt
+of_asked command.Replay (source ∷ log ∷ []) given a e = of_replay source log (value_of (codes "reads") given) (value_of (codes "from") given) a e
 of_asked command.Profile (source ∷ log ∷ name ∷ []) given a e = subst HasLimits (same_Some (Profile source log name) a e) tt
 of_asked command.Watch (source ∷ log ∷ predicate ∷ []) given a e = of_watch source log (accesses_asked predicate) a e
 of_asked command.Chain (source ∷ log ∷ one ∷ other ∷ []) given a e = of_chain source log one other a e
+of_asked command.Checkpoint (source ∷ log ∷ count ∷ name ∷ []) given a e = of_checkpoint (number_within 0 16777312 count) source log count name a refl e
 of_asked command.Make (count ∷ name ∷ []) given a e = of_make (number_within 1 1000 count) count name a refl e
 of_asked _ _ given a e = cc
 

@@ -9,14 +9,14 @@ use Rattle.clap.specs.declared.parser.matches.Found.{Found}
 use Rattle.clap.proofs.WalkLemmas.{first_value-rows}
 use Rattle.thread_interpreter.specs.declared.access.Formula.{Formula}
 use Rattle.command_line.specs.Arguments.{Argument, are_fit, positional, value_of, number_within, number_or}
-use Rattle.command_line.specs.Jobs.{Asked, asked_of, job_by, takes}
-use Rattle.command_line.specs.Jobs.Asked.{Races, Weaken, Record, Replay, Profile, Watch, Chain, Make}
+use Rattle.command_line.specs.Jobs.{Asked, asked_of, job_by, replay_of, takes}
+use Rattle.command_line.specs.Jobs.Asked.{Races, Weaken, Record, Profile, Watch, Chain, Checkpoint, Make}
 use Rattle.command_line.specs.Reader.{asked_by, option_rule, pairs, rows_read, words_of}
 use Rattle.command_line.specs.Events.{event_named}
 use Rattle.command_line.specs.Predicates.{accesses_asked}
 use Rattle.command_line.specs.declared.command.Command.{Command}
 use Rattle.command_line.specs.declared.command.Command.TheVariants as command
-use Rattle.command_line.proofs.Pairs.{first_in_rows, value_apart, value_in, word_at}
+use Rattle.command_line.proofs.Pairs.{are_apart, first_in_rows, no_word, value_apart, value_in, word_at}
 
 -- ---- commands as they are built
 
@@ -62,6 +62,12 @@ no_job command.Chain (a ∷ b ∷ []) given h = refl
 no_job command.Chain (a ∷ b ∷ c ∷ []) given h = refl
 no_job command.Chain (a ∷ b ∷ c ∷ d ∷ []) given h = absurd (h refl)
 no_job command.Chain (a ∷ b ∷ c ∷ d ∷ e ∷ more) given h = refl
+no_job command.Checkpoint [] given h = refl
+no_job command.Checkpoint (a ∷ []) given h = refl
+no_job command.Checkpoint (a ∷ b ∷ []) given h = refl
+no_job command.Checkpoint (a ∷ b ∷ c ∷ []) given h = refl
+no_job command.Checkpoint (a ∷ b ∷ c ∷ d ∷ []) given h = absurd (h refl)
+no_job command.Checkpoint (a ∷ b ∷ c ∷ d ∷ e ∷ more) given h = refl
 no_job command.Make [] given h = refl
 no_job command.Make (a ∷ []) given h = refl
 no_job command.Make (a ∷ b ∷ []) given h = absurd (h refl)
@@ -85,8 +91,8 @@ races_by source = source >>= λ s. Some (Races s)
 abbrev weaken_by : Option Text → Option Text → Option Asked
 weaken_by source profile = source >>= λ s. Some (Weaken s profile)
 
-abbrev replay_by : Option Text → Option Text → Option Text → Option Asked
-replay_by source log reads = source >>= λ s. (log >>= λ l. Some (Replay s l reads))
+abbrev replay_by : Option Text → Option Text → Option Text → Option Text → Option Asked
+replay_by source log reads checkpoint = source >>= λ s. (log >>= λ l. replay_of s l reads checkpoint)
 
 abbrev profile_by : Option Text → Option Text → Option Text → Option Asked
 profile_by source log name = source >>= λ s. (log >>= λ l. (name >>= λ n. Some (Profile s l n)))
@@ -96,6 +102,9 @@ watch_by source log predicate = source >>= λ s. (log >>= λ l. (predicate >>= �
 
 abbrev chain_by : Option Text → Option Text → Option Text → Option Text → Option Asked
 chain_by source log one other = source >>= λ s. (log >>= λ l. (one >>= λ a. (event_named a >>= λ i. (other >>= λ b. (event_named b >>= λ j. Some (Chain s l i j))))))
+
+abbrev checkpoint_by : Option Text → Option Text → Option Text → Option Text → Option Asked
+checkpoint_by source log count name = source >>= λ s. (log >>= λ l. (count >>= λ c. (number_within 0 16777312 c >>= λ n. (name >>= λ t. Some (Checkpoint s l n t)))))
 
 abbrev make_by : Option Text → Option Text → Option Asked
 make_by count name = count >>= λ c. (number_within 1 1000 c >>= λ n. (name >>= λ t. Some (Make n t)))
@@ -129,11 +138,14 @@ module _ (value : Text → Option Text) (given : List Argument) where
   of_record (a ∷ []) n source log option = cc
   of_record (a ∷ b ∷ c ∷ more) n source log option = cc
 
-  of_replay : (ws : List Text) → length ws ≡ 2 → value (codes "source") ≡ slice_get ws 0 → value (codes "log") ≡ slice_get ws 1 → value (codes "reads") ≡ value_of (codes "reads") given → asked_by command.Replay value ≡ asked_of command.Replay ws given
-  of_replay (s ∷ l ∷ []) n source log reads = (λ i. replay_by (source i) (log i) (reads i))
-  of_replay [] n source log reads = cc
-  of_replay (a ∷ []) n source log reads = cc
-  of_replay (a ∷ b ∷ c ∷ more) n source log reads = cc
+  of_replay : (ws : List Text) → length ws ≡ 2 → value (codes "source") ≡ slice_get ws 0 → value (codes "log") ≡ slice_get ws 1 → ((name : Text) → takes command.Replay name ≡ true → value name ≡ value_of name given) → asked_by command.Replay value ≡ asked_of command.Replay ws given
+  of_replay (s ∷ l ∷ []) n source log option =
+      let reads = option (codes "reads") refl in
+      let checkpoint = option (codes "from") refl in
+      (λ i. replay_by (source i) (log i) (reads i) (checkpoint i))
+  of_replay [] n source log option = cc
+  of_replay (a ∷ []) n source log option = cc
+  of_replay (a ∷ b ∷ c ∷ more) n source log option = cc
 
   of_profile : (ws : List Text) → length ws ≡ 3 → value (codes "source") ≡ slice_get ws 0 → value (codes "log") ≡ slice_get ws 1 → value (codes "name") ≡ slice_get ws 2 → asked_by command.Profile value ≡ asked_of command.Profile ws given
   of_profile (s ∷ l ∷ t ∷ []) n source log name = (λ i. profile_by (source i) (log i) (name i))
@@ -161,6 +173,18 @@ module _ (value : Text → Option Text) (given : List Argument) where
   of_chain (a ∷ b ∷ c ∷ []) n source log one other = cc
   of_chain (a ∷ b ∷ c ∷ d ∷ e ∷ more) n source log one other = cc
 
+  counted : (o : Option ℕ) (s l t : Text) → option_and_then (λ n. Some (Checkpoint s l n t)) o ≡ option_map (λ n. Checkpoint s l n t) o
+  counted None s l t = refl
+  counted (Some n) s l t = refl
+
+  of_checkpoint : (ws : List Text) → length ws ≡ 4 → value (codes "source") ≡ slice_get ws 0 → value (codes "log") ≡ slice_get ws 1 → value (codes "count") ≡ slice_get ws 2 → value (codes "name") ≡ slice_get ws 3 → asked_by command.Checkpoint value ≡ asked_of command.Checkpoint ws given
+  of_checkpoint (s ∷ l ∷ c ∷ t ∷ []) n source log count name = (λ i. checkpoint_by (source i) (log i) (count i) (name i)) ∙ counted (number_within 0 16777312 c) s l t
+  of_checkpoint [] n source log count name = cc
+  of_checkpoint (a ∷ []) n source log count name = cc
+  of_checkpoint (a ∷ b ∷ []) n source log count name = cc
+  of_checkpoint (a ∷ b ∷ c ∷ []) n source log count name = cc
+  of_checkpoint (a ∷ b ∷ c ∷ d ∷ e ∷ more) n source log count name = cc
+
   numbered : (o : Option ℕ) (t : Text) → option_and_then (λ n. Some (Make n t)) o ≡ option_map (λ n. Make n t) o
   numbered None t = refl
   numbered (Some n) t = refl
@@ -171,8 +195,8 @@ module _ (value : Text → Option Text) (given : List Argument) where
   of_make (a ∷ []) n count name = cc
   of_make (a ∷ b ∷ c ∷ more) n count name = cc
 
-  record_option : Values value command.Record given → (name : Text) → takes command.Record name ≡ true → value name ≡ value_of name given
-  record_option is name t = is name ∙ value_apart name (words_of command.Record) given (Rattle.command_line.proofs.Pairs.no_word (takes command.Record) name (words_of command.Record) t refl)
+  option_is : (c : Command) → are_apart (takes c) (words_of c) ≡ true → Values value c given → (name : Text) → takes c name ≡ true → value name ≡ value_of name given
+  option_is c apart is name t = is name ∙ value_apart name (words_of c) given (no_word (takes c) name (words_of c) t apart)
 
   of_values : (c : Command) → are_fit (takes c) given ≡ true → length (positional given) ≡ length (words_of c) → Values value c given → asked_by c value ≡ asked_of c (positional given) given
   of_values command.Races fit n is = of_races (positional given) n (is _ ∙ word_at (takes command.Races) (codes "source") [] [] given refl refl fit)
@@ -181,11 +205,10 @@ module _ (value : Text → Option Text) (given : List Argument) where
       (is _ ∙ value_apart (codes "profile") (words_of command.Weaken) given refl)
   of_values command.Record fit n is =
       of_record (positional given) n (is _ ∙ word_at (takes command.Record) (codes "source") [] (codes "log" ∷ []) given refl refl fit)
-      (is _ ∙ word_at (takes command.Record) (codes "log") (codes "source" ∷ []) [] given refl refl fit) (record_option is)
+      (is _ ∙ word_at (takes command.Record) (codes "log") (codes "source" ∷ []) [] given refl refl fit) (option_is command.Record refl is)
   of_values command.Replay fit n is =
       of_replay (positional given) n (is _ ∙ word_at (takes command.Replay) (codes "source") [] (codes "log" ∷ []) given refl refl fit)
-      (is _ ∙ word_at (takes command.Replay) (codes "log") (codes "source" ∷ []) [] given refl refl fit)
-      (is _ ∙ value_apart (codes "reads") (words_of command.Replay) given refl)
+      (is _ ∙ word_at (takes command.Replay) (codes "log") (codes "source" ∷ []) [] given refl refl fit) (option_is command.Replay refl is)
   of_values command.Profile fit n is =
       of_profile (positional given) n (is _ ∙ word_at (takes command.Profile) (codes "source") [] (codes "log" ∷ codes "name" ∷ []) given refl refl fit)
       (is _ ∙ word_at (takes command.Profile) (codes "log") (codes "source" ∷ []) (codes "name" ∷ []) given refl refl fit)
@@ -199,6 +222,11 @@ module _ (value : Text → Option Text) (given : List Argument) where
       (is _ ∙ word_at (takes command.Chain) (codes "log") (codes "source" ∷ []) (codes "one" ∷ codes "other" ∷ []) given refl refl fit)
       (is _ ∙ word_at (takes command.Chain) (codes "one") (codes "source" ∷ codes "log" ∷ []) (codes "other" ∷ []) given refl refl fit)
       (is _ ∙ word_at (takes command.Chain) (codes "other") (codes "source" ∷ codes "log" ∷ codes "one" ∷ []) [] given refl refl fit)
+  of_values command.Checkpoint fit n is =
+      of_checkpoint (positional given) n (is _ ∙ word_at (takes command.Checkpoint) (codes "source") [] (codes "log" ∷ codes "count" ∷ codes "name" ∷ []) given refl refl fit)
+      (is _ ∙ word_at (takes command.Checkpoint) (codes "log") (codes "source" ∷ []) (codes "count" ∷ codes "name" ∷ []) given refl refl fit)
+      (is _ ∙ word_at (takes command.Checkpoint) (codes "count") (codes "source" ∷ codes "log" ∷ []) (codes "name" ∷ []) given refl refl fit)
+      (is _ ∙ word_at (takes command.Checkpoint) (codes "name") (codes "source" ∷ codes "log" ∷ codes "count" ∷ []) [] given refl refl fit)
   of_values command.Make fit n is =
       of_make (positional given) n (is _ ∙ word_at (takes command.Make) (codes "count") [] (codes "name" ∷ []) given refl refl fit)
       (is _ ∙ word_at (takes command.Make) (codes "name") (codes "count" ∷ []) [] given refl refl fit)

@@ -120,7 +120,7 @@ replay_ready : Ready command.Replay
 replay_ready = record {
   simple = refl;
   leaf = refl;
-  options = of_options _ _ (options_of command.Replay) (λ name e. one_option name (codes "reads") e) refl (record { by_long = refl; by_id = refl }, tt);
+  options = of_options _ _ (options_of command.Replay) (λ name e. e) refl (record { by_long = refl; by_id = refl }, (record { by_long = refl; by_id = refl }, tt));
   words = (record { by_index = refl; by_id = refl; next_at = refl }, (record { by_index = refl; by_id = refl; next_at = refl }, tt));
   apart = refl;
   passing = refl;
@@ -168,6 +168,19 @@ chain_ready = record {
   following = λ words. refl;
 }
 
+checkpoint_ready : Ready command.Checkpoint
+checkpoint_ready = record {
+  simple = refl;
+  leaf = refl;
+  options = no_option _ _ (λ name. refl);
+  words = (record { by_index = refl; by_id = refl; next_at = refl }, (record { by_index = refl; by_id = refl; next_at = refl }, (record { by_index = refl; by_id = refl; next_at = refl }, (record { by_index = refl; by_id = refl; next_at = refl }, tt))));
+  apart = refl;
+  passing = refl;
+  none = refl;
+  valid = λ rows. refl;
+  following = λ words. refl;
+}
+
 make_ready : Ready command.Make
 make_ready = record {
   simple = refl;
@@ -189,6 +202,7 @@ ready command.Replay = replay_ready
 ready command.Profile = profile_ready
 ready command.Watch = watch_ready
 ready command.Chain = chain_ready
+ready command.Checkpoint = checkpoint_ready
 ready command.Make = make_ready
 
 -- ---- fit words

@@ -20,14 +20,23 @@ status_of (answer.LogRefused number line) = 4
 status_of (answer.WrongEntry at) = 5
 status_of (answer.ProfileRefused number) = 6
 status_of (answer.TooLarge what) = 11
+status_of (answer.CheckpointRefused number place) = 13
 
 -- `source refused 7 3 12`
 abbrev pub source_refused : (number line column : ℕ) → List ℕ
 source_refused number line column = codes "source refused " ++ decimal number ++ codes " " ++ decimal line ++ codes " " ++ decimal column ++ codes "\n"
 
+-- the words that say what is refused, the number of the fault, and its place
+abbrev pub refused : (words : List ℕ) → (number place : ℕ) → List ℕ
+refused words number place = words ++ decimal number ++ codes " " ++ decimal place ++ codes "\n"
+
 -- `log refused 23 4`
 abbrev pub log_refused : (number line : ℕ) → List ℕ
-log_refused number line = codes "log refused " ++ decimal number ++ codes " " ++ decimal line ++ codes "\n"
+log_refused number line = refused (codes "log refused ") number line
+
+-- `checkpoint refused 26 2`
+abbrev pub checkpoint_refused : (number place : ℕ) → List ℕ
+checkpoint_refused number place = refused (codes "checkpoint refused ") number place
 
 -- `trap 9 thread 0 line 2`
 abbrev pub trap_line : (kind : Trap) → (thread line : ℕ) → List ℕ
@@ -47,6 +56,7 @@ too_large part.Source = codes "too large source\n"
 too_large part.Log = codes "too large log\n"
 too_large part.Profile = codes "too large profile\n"
 too_large part.Input = codes "too large input\n"
+too_large part.Checkpoint = codes "too large checkpoint\n"
 
 -- all that the program writes; what the source printed comes first
 abbrev pub text_of : Answer → List ℕ
@@ -58,6 +68,7 @@ text_of (answer.LogRefused number line) = log_refused number line
 text_of (answer.WrongEntry at) = wrong_entry at
 text_of (answer.ProfileRefused number) = profile_refused number
 text_of (answer.TooLarge what) = too_large what
+text_of (answer.CheckpointRefused number place) = checkpoint_refused number place
 
 -- ---- what is told of a made source
 
@@ -96,6 +107,10 @@ refused_source = refl
 refused_profile : text_of (answer.ProfileRefused 21) ≡ codes "profile refused 21\n"
 unfolding digits
 refused_profile = refl
+
+refused_checkpoint : text_of (answer.CheckpointRefused 26 2) ≡ codes "checkpoint refused 26 2\n"
+unfolding digits
+refused_checkpoint = refl
 
 without_newline : text_of (answer.Trapped (codes "5") trap.MutexMisuse 0 2) ≡ codes "5trap 9 thread 0 line 2\n"
 unfolding digits

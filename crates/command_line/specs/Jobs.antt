@@ -34,6 +34,8 @@ pub data Asked : Type 0 where
   Profile : (source log name : List ℕ) → Asked
   Watch : (source log : List ℕ) → (formula : Formula) → Asked
   Chain : (source log : List ℕ) → (one other : Event) → Asked
+  Checkpoint : (source log : List ℕ) → (count : ℕ) → (name : List ℕ) → Asked
+  Resume : (source log name : List ℕ) → Asked
   Make : (count : ℕ) → (name : List ℕ) → Asked
 
 -- ---- the words
@@ -48,13 +50,14 @@ command_of word =
     (if bytes_eq word (codes "profile") then Some command.Profile else
     (if bytes_eq word (codes "watch") then Some command.Watch else
     (if bytes_eq word (codes "chain") then Some command.Chain else
-    (if bytes_eq word (codes "make") then Some command.Make else None)))))))
+    (if bytes_eq word (codes "checkpoint") then Some command.Checkpoint else
+    (if bytes_eq word (codes "make") then Some command.Make else None))))))))
 
 -- the options that may be given with a command
 abbrev pub takes : Command → (option : List ℕ) → Bool
 takes command.Weaken option = bytes_eq option (codes "profile")
 takes command.Record option = list_any (bytes_eq option) (codes "profile" ∷ codes "slots" ∷ codes "cells" ∷ codes "limit" ∷ codes "budget" ∷ codes "reads" ∷ [])
-takes command.Replay option = bytes_eq option (codes "reads")
+takes command.Replay option = list_any (bytes_eq option) (codes "reads" ∷ codes "from" ∷ [])
 takes _ option = false
 
 infixl 10 ◌>>=◌
@@ -70,6 +73,12 @@ record_of source log given = do
   budget ← number_or 1 1048576 1000 (value_of (codes "budget") given)
   Some (Record (record { source = source; log = log; profile = value_of (codes "profile") given; slots = slots; cells = cells; limit = limit; budget = budget; reads = value_of (codes "reads") given }))
 
+-- a replay of the whole log, or of the rest of it from a checkpoint on, where no reads may be asked for
+abbrev pub replay_of : (source log : List ℕ) → (reads checkpoint : Option (List ℕ)) → Option Asked
+replay_of source log reads None = Some (Replay source log reads)
+replay_of source log None (Some name) = Some (Resume source log name)
+replay_of source log (Some reads) (Some name) = None
+
 -- what orders two events
 abbrev pub chain_of : (source log one other : List ℕ) → Option Asked
 chain_of source log one other = do
@@ -82,10 +91,11 @@ abbrev pub asked_of : Command → (words : List (List ℕ)) → (given : List Ar
 asked_of command.Races (source ∷ []) given = Some (Races source)
 asked_of command.Weaken (source ∷ []) given = Some (Weaken source (value_of (codes "profile") given))
 asked_of command.Record (source ∷ log ∷ []) given = record_of source log given
-asked_of command.Replay (source ∷ log ∷ []) given = Some (Replay source log (value_of (codes "reads") given))
+asked_of command.Replay (source ∷ log ∷ []) given = replay_of source log (value_of (codes "reads") given) (value_of (codes "from") given)
 asked_of command.Profile (source ∷ log ∷ name ∷ []) given = Some (Profile source log name)
 asked_of command.Watch (source ∷ log ∷ predicate ∷ []) given = option_map (Watch source log) (accesses_asked predicate)
 asked_of command.Chain (source ∷ log ∷ one ∷ other ∷ []) given = chain_of source log one other
+asked_of command.Checkpoint (source ∷ log ∷ count ∷ name ∷ []) given = option_map (λ n. Checkpoint source log n name) (number_within 0 16777312 count)
 asked_of command.Make (count ∷ name ∷ []) given = option_map (λ n. Make n name) (number_within 1 1000 count)
 asked_of _ _ _ = None
 
@@ -115,6 +125,7 @@ pub record HasRecordLimits (asked : RecordAsked) : Type 0 where
 abbrev pub HasLimits : Asked → Type 0
 HasLimits (Record asked) = HasRecordLimits asked
 HasLimits (Chain source log one other) = HasEventLimits one × HasEventLimits other
+HasLimits (Checkpoint source log count name) = count ≤ 16777312
 HasLimits (Make count name) = (1 ≤ count) × (count ≤ 1000)
 HasLimits _ = ⊤
 
@@ -133,6 +144,8 @@ told (job.Replay source log reads) = Replay source.now log.now (option_map (λ n
 told (job.Profile source log name) = Profile source.now log.now name.now
 told (job.Watch source log formula) = Watch source.now log.now formula
 told (job.Chain source log one other) = Chain source.now log.now one other
+told (job.Checkpoint source log count name) = Checkpoint source.now log.now count name.now
+told (job.Resume source log name) = Resume source.now log.now name.now
 told (job.Make count name) = Make count name.now
 
 -- ---- worked rows
@@ -172,6 +185,20 @@ ordered = refl
 
 one_event_short : job_of (codes "chain" ∷ codes "a" ∷ codes "b" ∷ codes "2.4" ∷ []) ≡ None
 one_event_short = refl
+
+last_checkpoint : job_of (codes "checkpoint" ∷ codes "a" ∷ codes "b" ∷ codes "16777312" ∷ codes "c" ∷ []) ≡ Some (Checkpoint (codes "a") (codes "b") 16777312 (codes "c"))
+unfolding digits
+last_checkpoint = refl
+
+beyond_the_last : job_of (codes "checkpoint" ∷ codes "a" ∷ codes "b" ∷ codes "16777313" ∷ codes "c" ∷ []) ≡ None
+unfolding digits
+beyond_the_last = refl
+
+resumed : job_of (codes "replay" ∷ codes "a" ∷ codes "b" ∷ codes "--from" ∷ codes "c" ∷ []) ≡ Some (Resume (codes "a") (codes "b") (codes "c"))
+resumed = refl
+
+resumed_with_reads : job_of (codes "replay" ∷ codes "a" ∷ codes "b" ∷ codes "--from=c" ∷ codes "--reads=r" ∷ []) ≡ None
+resumed_with_reads = refl
 
 made : job_of (codes "make" ∷ codes "1000" ∷ codes "n.c" ∷ []) ≡ Some (Make 1000 (codes "n.c"))
 unfolding digits

@@ -1,8 +1,8 @@
 -- The commands of `clap` that read the words after a command, and what they match there.
 use Rattle.std.specs.Prelude.{true, List, [], ◌∷◌, ◌++◌, map, Option, Some, None, option_and_then, codes}
 use Rattle.command_line.specs.Arguments.{Argument, Positional, Setting, Wrong, number_within, number_or}
-use Rattle.command_line.specs.Jobs.{Asked}
-use Rattle.command_line.specs.Jobs.Asked.{Races, Weaken, Record, Replay, Profile, Watch, Chain, Make}
+use Rattle.command_line.specs.Jobs.{Asked, replay_of}
+use Rattle.command_line.specs.Jobs.Asked.{Races, Weaken, Record, Profile, Watch, Chain, Checkpoint, Make}
 use Rattle.command_line.specs.Events.{event_named}
 use Rattle.command_line.specs.Predicates.{accesses_asked}
 use Rattle.command_line.specs.declared.command.Command.{Command}
@@ -23,13 +23,14 @@ words_of command.Replay = codes "source" ∷ codes "log" ∷ []
 words_of command.Profile = codes "source" ∷ codes "log" ∷ codes "name" ∷ []
 words_of command.Watch = codes "source" ∷ codes "log" ∷ codes "predicate" ∷ []
 words_of command.Chain = codes "source" ∷ codes "log" ∷ codes "one" ∷ codes "other" ∷ []
+words_of command.Checkpoint = codes "source" ∷ codes "log" ∷ codes "count" ∷ codes "name" ∷ []
 words_of command.Make = codes "count" ∷ codes "name" ∷ []
 
 -- the options of a command
 abbrev pub options_of : Command → List Text
 options_of command.Weaken = codes "profile" ∷ []
 options_of command.Record = codes "profile" ∷ codes "slots" ∷ codes "cells" ∷ codes "limit" ∷ codes "budget" ∷ codes "reads" ∷ []
-options_of command.Replay = codes "reads" ∷ []
+options_of command.Replay = codes "reads" ∷ codes "from" ∷ []
 options_of _ = []
 
 -- an option that takes a value, as `--name value` and `--name=value`
@@ -53,6 +54,7 @@ reader_of command.Replay = reading (codes "replay") (words_of command.Replay) (o
 reader_of command.Profile = reading (codes "profile") (words_of command.Profile) (options_of command.Profile)
 reader_of command.Watch = reading (codes "watch") (words_of command.Watch) (options_of command.Watch)
 reader_of command.Chain = reading (codes "chain") (words_of command.Chain) (options_of command.Chain)
+reader_of command.Checkpoint = reading (codes "checkpoint") (words_of command.Checkpoint) (options_of command.Checkpoint)
 reader_of command.Make = reading (codes "make") (words_of command.Make) (options_of command.Make)
 
 -- ---- what is matched
@@ -102,7 +104,7 @@ asked_by command.Record value = do
 asked_by command.Replay value = do
   source ← value (codes "source")
   log ← value (codes "log")
-  Some (Replay source log (value (codes "reads")))
+  replay_of source log (value (codes "reads")) (value (codes "from"))
 asked_by command.Profile value = do
   source ← value (codes "source")
   log ← value (codes "log")
@@ -122,6 +124,13 @@ asked_by command.Chain value = do
   other ← value (codes "other")
   j ← event_named other
   Some (Chain source log i j)
+asked_by command.Checkpoint value = do
+  source ← value (codes "source")
+  log ← value (codes "log")
+  count ← value (codes "count")
+  number ← number_within 0 16777312 count
+  name ← value (codes "name")
+  Some (Checkpoint source log number name)
 asked_by command.Make value = do
   count ← value (codes "count")
   number ← number_within 1 1000 count

@@ -13,6 +13,7 @@ pub enum Part {
     Log,
     Profile,
     Input,
+    Checkpoint,
 }
 
 /// What the program answers, where neither the outside nor memory fails it.
@@ -52,6 +53,12 @@ pub enum Answer {
     },
     /// A file has more bytes than it may.
     TooLarge(Part),
+    /// The bytes are no checkpoint of the log's run that can be gone on from, with the number of the fault, and its line or
+    /// the thread that it stopped.
+    CheckpointRefused {
+        number: u8,
+        place: u32,
+    },
 }
 
 impl Answer {
@@ -68,6 +75,7 @@ impl Answer {
             Answer::WrongEntry { .. } => 5,
             Answer::ProfileRefused { .. } => 6,
             Answer::TooLarge(_) => 11,
+            Answer::CheckpointRefused { .. } => 13,
         }
     }
 }
@@ -93,11 +101,12 @@ fn push_source_refused(
     out.extend_from_slice(b"\n")
 }
 
-fn push_log_refused(out: &mut Bytes, number: u8, line: u32) -> Result<(), AllocError>
-    ensures { OnOk result (out.new ≡ out.old ++ spec.log_refused number line) }
+// That a file is refused, which the words say, with the number of the fault and its place.
+fn push_refused(out: &mut Bytes, words: &[u8], number: u8, place: u32) -> Result<(), AllocError>
+    ensures { OnOk result (out.new ≡ out.old ++ spec.refused words.now number place) }
 {
-    push_numbered(out, b"log refused ", u32::from(number))?;
-    push_numbered(out, b" ", line)?;
+    push_numbered(out, words, u32::from(number))?;
+    push_numbered(out, b" ", place)?;
     out.extend_from_slice(b"\n")
 }
 
@@ -132,6 +141,7 @@ fn too_large(what: Part) -> &'static [u8]
         Part::Log => b"too large log\n",
         Part::Profile => b"too large profile\n",
         Part::Input => b"too large input\n",
+        Part::Checkpoint => b"too large checkpoint\n",
     }
 }
 
@@ -157,10 +167,15 @@ pub fn text_of(alloc: Global, answer: Answer) -> Result<Bytes, AllocError>
             text = out;
             push_trap_line(&mut text, kind, thread, line)?;
         }
-        Answer::LogRefused { number, line } => push_log_refused(&mut text, number, line)?,
+        Answer::LogRefused { number, line } => {
+            push_refused(&mut text, b"log refused ", number, line)?;
+        }
         Answer::WrongEntry { at } => push_wrong_entry(&mut text, at)?,
         Answer::ProfileRefused { number } => push_profile_refused(&mut text, number)?,
         Answer::TooLarge(what) => text.extend_from_slice(too_large(what))?,
+        Answer::CheckpointRefused { number, place } => {
+            push_refused(&mut text, b"checkpoint refused ", number, place)?;
+        }
     }
     Ok(text)
 }

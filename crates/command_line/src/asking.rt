@@ -38,6 +38,33 @@ fn record_of<'a>(matches: &ArgMatches<'a>) -> Option<Job<'a>>
     }))
 }
 
+fn replay_of<'a>(matches: &ArgMatches<'a>) -> Option<Job<'a>>
+    ensures { option_map spec.told result ≡ asked_by command.Replay (first_value (found_of matches.now)) }
+{
+    let source = matches.get_str("source")?;
+    let log = matches.get_str("log")?;
+    match (matches.get_str("reads"), matches.get_str("from")) {
+        (reads, None) => Some(Job::Replay { source, log, reads }),
+        (None, Some(name)) => Some(Job::Resume { source, log, name }),
+        (Some(_), Some(_)) => None,
+    }
+}
+
+fn checkpoint_of<'a>(matches: &ArgMatches<'a>) -> Option<Job<'a>>
+    ensures { option_map spec.told result ≡ asked_by command.Checkpoint (first_value (found_of matches.now)) }
+{
+    let source = matches.get_str("source")?;
+    let log = matches.get_str("log")?;
+    let count = number_within(0, 16_777_312, matches.get_str("count")?)?;
+    let name = matches.get_str("name")?;
+    Some(Job::Checkpoint {
+        source,
+        log,
+        count,
+        name,
+    })
+}
+
 fn asked<'a>(command: Command, matches: &ArgMatches<'a>) -> Option<Job<'a>>
     ensures { option_map spec.told result ≡ asked_by command (first_value (found_of matches.now)) }
 {
@@ -52,12 +79,7 @@ fn asked<'a>(command: Command, matches: &ArgMatches<'a>) -> Option<Job<'a>>
             Some(Job::Weaken { source, profile })
         }
         Command::Record => record_of(matches),
-        Command::Replay => {
-            let source = matches.get_str("source")?;
-            let log = matches.get_str("log")?;
-            let reads = matches.get_str("reads");
-            Some(Job::Replay { source, log, reads })
-        }
+        Command::Replay => replay_of(matches),
         Command::Profile => {
             let source = matches.get_str("source")?;
             let log = matches.get_str("log")?;
@@ -86,6 +108,7 @@ fn asked<'a>(command: Command, matches: &ArgMatches<'a>) -> Option<Job<'a>>
                 other,
             })
         }
+        Command::Checkpoint => checkpoint_of(matches),
         Command::Make => {
             let count = number_within(1, 1_000, matches.get_str("count")?)?;
             let name = matches.get_str("name")?;

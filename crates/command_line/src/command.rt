@@ -14,6 +14,7 @@ pub enum Command {
     Profile,
     Watch,
     Chain,
+    Checkpoint,
     Make,
 }
 
@@ -30,6 +31,7 @@ impl Command {
             "profile" => Some(Command::Profile),
             "watch" => Some(Command::Watch),
             "chain" => Some(Command::Chain),
+            "checkpoint" => Some(Command::Checkpoint),
             "make" => Some(Command::Make),
             _ => None,
         }
@@ -43,7 +45,7 @@ impl Command {
             Command::Races | Command::Weaken => 1,
             Command::Record | Command::Replay | Command::Make => 2,
             Command::Profile | Command::Watch => 3,
-            Command::Chain => 4,
+            Command::Chain | Command::Checkpoint => 4,
         }
     }
 
@@ -54,9 +56,13 @@ impl Command {
         match self {
             Command::Weaken => option == "profile",
             Command::Record => is_of_record(option),
-            Command::Replay => option == "reads",
-            Command::Races | Command::Profile | Command::Watch | Command::Chain | Command::Make =>
-                false,
+            Command::Replay => matches!(option, "reads" | "from"),
+            Command::Races
+            | Command::Profile
+            | Command::Watch
+            | Command::Chain
+            | Command::Checkpoint
+            | Command::Make => false,
         }
     }
 }

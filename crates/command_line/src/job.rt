@@ -42,6 +42,19 @@ pub enum Job<'a> {
         one: Event,
         other: Event,
     },
+    /// The state after so many entries of a log's run, put under a name.
+    Checkpoint {
+        source: &'a str,
+        log: &'a str,
+        count: u32,
+        name: &'a str,
+    },
+    /// The rest of a log's run, from the state that a file holds.
+    Resume {
+        source: &'a str,
+        log: &'a str,
+        name: &'a str,
+    },
     /// A made source with so many functions, recorded and replayed.
     Make {
         count: u32,

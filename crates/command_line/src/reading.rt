@@ -65,7 +65,8 @@ fn replay_reader<'a>(alloc: Global) -> Result<Reader<'a>, AllocError>
 {
     let reader = with_word(alloc, bare(alloc, "replay"), "source")?;
     let reader = with_word(alloc, reader, "log")?;
-    with_option(alloc, reader, "reads")
+    let reader = with_option(alloc, reader, "reads")?;
+    with_option(alloc, reader, "from")
 }
 
 fn profile_reader<'a>(alloc: Global) -> Result<Reader<'a>, AllocError>
@@ -93,6 +94,15 @@ fn chain_reader<'a>(alloc: Global) -> Result<Reader<'a>, AllocError>
     with_word(alloc, reader, "other")
 }
 
+fn checkpoint_reader<'a>(alloc: Global) -> Result<Reader<'a>, AllocError>
+    ensures { IfOk result (λ r. app_of r ≡ spec.reader_of command.Checkpoint) }
+{
+    let reader = with_word(alloc, bare(alloc, "checkpoint"), "source")?;
+    let reader = with_word(alloc, reader, "log")?;
+    let reader = with_word(alloc, reader, "count")?;
+    with_word(alloc, reader, "name")
+}
+
 fn make_reader<'a>(alloc: Global) -> Result<Reader<'a>, AllocError>
     ensures { IfOk result (λ r. app_of r ≡ spec.reader_of command.Make) }
 {
@@ -111,6 +121,7 @@ fn reader_of<'a>(alloc: Global, command: Command) -> Result<Reader<'a>, AllocErr
         Command::Profile => profile_reader(alloc),
         Command::Watch => watch_reader(alloc),
         Command::Chain => chain_reader(alloc),
+        Command::Checkpoint => checkpoint_reader(alloc),
         Command::Make => make_reader(alloc),
     }
 }

@@ -83,12 +83,21 @@ fn told(alloc: Global, job: Job<'_>) -> Result<String, AllocError> {
             one,
             other,
         } => told_chain(alloc, source, log, [one, other]),
+        Job::Checkpoint {
+            source,
+            log,
+            count,
+            name,
+        } => format!(in alloc; "checkpoint {source} {log} {count} {name}"),
+        Job::Resume { source, log, name } => {
+            format!(in alloc; "replay {source} {log} from {name}")
+        }
         Job::Make { count, name } => format!(in alloc; "make {count} {name}"),
     }
 }
 
 // Each command, and each option in both spellings and in any place.
-const JOBS: [(&str, &str); 35] = [
+const JOBS: [(&str, &str); 39] = [
     ("races a", "races a"),
     ("weaken a", "weaken a none"),
     ("weaken a --profile p", "weaken a p"),
@@ -98,6 +107,8 @@ const JOBS: [(&str, &str); 35] = [
     ("replay a b", "replay a b none"),
     ("replay --reads r a b", "replay a b r"),
     ("replay a --reads=r b", "replay a b r"),
+    ("replay a b --from c", "replay a b from c"),
+    ("replay --from=c a b", "replay a b from c"),
     ("profile a b c", "profile a b c"),
     ("watch a b load", "watch a b true false 99 0 4294967295 99"),
     (
@@ -115,6 +126,8 @@ const JOBS: [(&str, &str); 35] = [
     ("chain a b 2.4 1.4", "chain a b 2 4 1 4"),
     ("chain a b 0.0 15.67108865", "chain a b 0 0 15 67108865"),
     ("chain a b 1.20 1.20", "chain a b 1 20 1 20"),
+    ("checkpoint a b 0 c", "checkpoint a b 0 c"),
+    ("checkpoint a b 16777312 c", "checkpoint a b 16777312 c"),
     ("make 1 a", "make 1 a"),
     ("make 1000 a", "make 1000 a"),
     ("record a b", "record a b none 8 16384 16777216 1000 none"),
@@ -178,7 +191,7 @@ const JOBS: [(&str, &str); 35] = [
 ];
 
 // Lists of words that are no job.
-const NO_JOBS: [&str; 93] = [
+const NO_JOBS: [&str; 106] = [
     "",
     "help",
     "--help",
@@ -253,6 +266,19 @@ const NO_JOBS: [&str; 93] = [
     "chain a b . 1.2",
     "chain a b 1,2 1.2",
     "chain a b t.2 1.2",
+    "replay a b --from",
+    "replay a b --from c --from c",
+    "replay a b --from c --reads r",
+    "replay a b --reads=r --from=c",
+    "profile a b c --from d",
+    "checkpoint a b",
+    "checkpoint a b 1",
+    "checkpoint a b 1 c d",
+    "checkpoint a b 1 c --reads r",
+    "checkpoint a b 16777313 c",
+    "checkpoint a b 01 c",
+    "checkpoint a b -1 c",
+    "checkpoint a b c 1",
     "make",
     "make a",
     "make 0 a",
@@ -352,6 +378,19 @@ fn answers_are_told(rt: HostRuntime) -> Result<(), Fail> {
             Answer::ProfileRefused { number: 22 },
             6,
             "profile refused 22\n",
+        ),
+        (
+            Answer::CheckpointRefused {
+                number: 26,
+                place: 2,
+            },
+            13,
+            "checkpoint refused 26 2\n",
+        ),
+        (
+            Answer::TooLarge(Part::Checkpoint),
+            11,
+            "too large checkpoint\n",
         ),
         (Answer::TooLarge(Part::Source), 11, "too large source\n"),
         (Answer::TooLarge(Part::Log), 11, "too large log\n"),

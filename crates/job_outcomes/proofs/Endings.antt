@@ -62,11 +62,11 @@ pub record Causes (old new : Outside) (result : ℕ) : Type 0 where
   pub output : result ≡ 8 → Rose old.out.faults new.out.faults
   pub shelf : result ≡ 9 → Rose old.counts.shelf new.counts.shelf
   pub crew : result ≡ 10 → Rose old.counts.crew new.counts.crew
-  pub within : result ≤ 12
+  pub within : result ≤ 13
 
 -- the statuses of answers
 abbrev IsAnswered : ℕ → Type 0
-IsAnswered n = (n < 7) ⊎ (n ≡ 11)
+IsAnswered n = (n < 7) ⊎ ((11 ≤ n) × (n ≤ 13))
 
 answered : (a : Answer) → IsAnswered (status_of a)
 answered (answer.Done out) = inl (omega arith)
@@ -76,19 +76,16 @@ answered (answer.Trapped out kind thread line) = inl (omega arith)
 answered (answer.LogRefused number line) = inl (omega arith)
 answered (answer.WrongEntry at) = inl (omega arith)
 answered (answer.ProfileRefused number) = inl (omega arith)
-answered (answer.TooLarge what) = inr refl
+answered (answer.TooLarge what) = inr (omega arith, omega arith)
+answered (answer.CheckpointRefused number place) = inr (omega arith, omega arith)
 
 module _ (old new : Outside) (result : ℕ) where
-  other : (n : ℕ) → (n < 7) ⊎ ((11 ≤ n) × (n ≤ 12)) → result ≡ n → Causes old new result
+  other : (n : ℕ) → IsAnswered n → result ≡ n → Causes old new result
   other n (inl h) e = record { input = λ f. absurd (omega (arith, h, e, f)); output = λ f. absurd (omega (arith, h, e, f)); shelf = λ f. absurd (omega (arith, h, e, f)); crew = λ f. absurd (omega (arith, h, e, f)); within = omega (arith, h, e) }
   other n (inr h) e = record { input = λ f. absurd (omega (arith, h.0, e, f)); output = λ f. absurd (omega (arith, h.0, e, f)); shelf = λ f. absurd (omega (arith, h.0, e, f)); crew = λ f. absurd (omega (arith, h.0, e, f)); within = omega (arith, h.1, e) }
 
   of_answer : (a : Answer) → result ≡ status_of a → Causes old new result
-  of_answer a e = by (answered a)
-    where
-      by : IsAnswered (status_of a) → Causes old new result
-      by (inl h) = other (status_of a) (inl h) e
-      by (inr h) = other (status_of a) (inr (omega (arith, h), omega (arith, h))) e
+  of_answer a e = other (status_of a) (answered a) e
 
   of_input : Rose old.counts.input new.counts.input → result ≡ 7 → Causes old new result
   of_input rose e = record { input = λ _. rose; output = λ f. absurd (omega (arith, e, f)); shelf = λ f. absurd (omega (arith, e, f)); crew = λ f. absurd (omega (arith, e, f)); within = omega (arith, e) }
