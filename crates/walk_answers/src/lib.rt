@@ -8,4 +8,4 @@ mod law;
 mod told;
 
 pub use law::law_one_walk;
-pub use told::{formula_of, outcome_of};
+pub use told::{answer_of, formula_of, outcome_of};

@@ -26,7 +26,8 @@ pub fn formula_of(reads: Option<&str>) -> Formula
     }
 }
 
-fn answer_of(walk: Walk) -> Answer
+/// The answer to a walk, without the accesses that it kept.
+pub fn answer_of(walk: Walk) -> Answer
     ensures { result ≡ spec.answer_of walk }
 {
     match walk {

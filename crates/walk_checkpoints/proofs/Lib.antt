@@ -1,0 +1,4 @@
+pub mod FilePut
+pub mod One
+pub mod Repeated
+pub mod Told
