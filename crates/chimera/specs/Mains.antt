@@ -2,7 +2,7 @@
 use Rattle.std.specs.Prelude.{◌≡◌, ℕ, List, None}
 use Rattle.command_line.specs.Endings.{Sight}
 use Rattle.command_line.specs.Jobs.{job_of}
-use Rattle.jobs.specs.Moments.{EndsFor, Moment}
+use Rattle.job_laws.specs.Moments.{EndsFor, Moment}
 
 -- A call with these words ends with this status, on files and streams that don't tell what they hold: on some files and some input
 -- the words have the outcome that is told, or a fault or want of memory is.

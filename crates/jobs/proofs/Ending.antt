@@ -18,11 +18,11 @@ use Rattle.job_outcomes.specs.declared.outcome.Outcome.{Outcome}
 use Rattle.job_outcomes.specs.declared.stop.Stop.{Stop}
 use Rattle.job_outcomes.specs.declared.stop.Stop.TheVariants as stop
 use Rattle.rr_base.specs.Files.{Files}
-use Rattle.jobs.specs.Asks.{AsksCrew, AsksInput}
-use Rattle.jobs.specs.Jobs.{IsOutcome, PutsBefore, UsesShelf}
-use Rattle.jobs.specs.Makings.{source_put}
-use Rattle.jobs.specs.Makings.IsPutInMaking.{Source}
-use Rattle.jobs.specs.Wants.{LacksFile}
+use Rattle.job_laws.specs.Asks.{AsksCrew, AsksInput}
+use Rattle.job_laws.specs.Jobs.{IsOutcome, PutsBefore, UsesShelf}
+use Rattle.job_laws.specs.Makings.{source_put}
+use Rattle.job_laws.specs.Makings.IsPutInMaking.{Source}
+use Rattle.job_laws.specs.Wants.{LacksFile}
 use Rattle.job_runs.specs.Works.{Work}
 
 -- files that a job may put before it has an outcome
@@ -74,6 +74,7 @@ module _ (files : Option Files) (old new : Sight) (result : ℕ) (nine : result 
   no_answer (answer.WrongEntry at) e = omega (arith, e)
   no_answer (answer.ProfileRefused number) e = omega (arith, e)
   no_answer (answer.TooLarge what) e = omega (arith, e)
+  no_answer (answer.CheckpointRefused number place) e = omega (arith, e)
 
   lacks_by : (job : Asked) (s : Stop) → TellsStop s old new result → (s ≡ stop.ShelfFailed → LacksFile files (Some job)) → LacksFile files (Some job)
   lacks_by job (stop.Refused a) tells h = absurd (not_nine (text_of a) (status_of a) (no_answer a) tells)

@@ -15,8 +15,8 @@ use Rattle.job_outcomes.specs.Steps.{Comes, Gives}
 use Rattle.job_outcomes.specs.declared.outcome.Outcome.{Outcome}
 use Rattle.job_outcomes.specs.declared.stop.Stop.{Stop}
 use Rattle.job_outcomes.specs.declared.stop.Stop.TheVariants as stop
-use Rattle.jobs.specs.Listings.{ListsRaces, ListsWeakLocks}
-use Rattle.jobs.specs.Sources.{Compiles, IsFound, IsTree}
+use Rattle.job_laws.specs.Listings.{ListsRaces, ListsWeakLocks}
+use Rattle.job_laws.specs.Sources.{Compiles, IsFound, IsTree}
 
 module _ (source : List ℕ) (p : Profile) (Next : List Outer → Outcome → Type 0) where
   -- without a code

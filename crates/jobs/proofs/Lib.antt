@@ -1,15 +1,8 @@
 pub mod Asked
-pub mod Caused
 pub mod Ending
 pub mod Found
-pub mod Headlines
-pub mod InOrder
+pub mod FromCheckpoint
 pub mod Made
 pub mod OfLog
-pub mod Outcomes
 pub mod Recorded
-pub mod Refused
-pub mod Repeated
 pub mod Replayed
-pub mod Unique
-pub mod Worked

@@ -38,12 +38,12 @@ use Rattle.workload.specs.Program.{numbers_below, program_text}
 use Rattle.job_runs.proofs.Recorded.{setup_within}
 use Rattle.jobs.proofs.Recorded.{LogsWalk, recording, recording_entries}
 use Rattle.job_runs.specs.Retold.{IsReplayed, summary_told}
-use Rattle.jobs.specs.Makings.{IsMade, IsMaking, IsPutInMaking, made_log, recording_of, source_put}
-use Rattle.jobs.specs.Makings.IsPutInMaking.{Source, SourceAndLog}
+use Rattle.job_laws.specs.Makings.{IsMade, IsMaking, IsPutInMaking, made_log, recording_of, source_put}
+use Rattle.job_laws.specs.Makings.IsPutInMaking.{Source, SourceAndLog}
 use Rattle.job_runs.specs.Recordings.{IsLogged, setup_of}
-use Rattle.jobs.specs.Recordings.{IsRecording}
-use Rattle.jobs.specs.Replays.{Replays}
-use Rattle.jobs.specs.Sources.{Compiles, IsSourceWalk, RunsAsSource, WalksAsSource}
+use Rattle.job_laws.specs.Recordings.{IsRecording}
+use Rattle.job_laws.specs.Replays.{Replays}
+use Rattle.job_laws.specs.Sources.{Compiles, IsSourceWalk, RunsAsSource, WalksAsSource}
 use Rattle.job_runs.specs.Works.{HasRun, IsIdle, IsOfRun, Work}
 use Rattle.job_runs.proofs.Worked.{ran, summary_is_of_run, told_of_run}
 

@@ -15,10 +15,10 @@ use Rattle.lock_sound.specs.Weakened.{Analysed}
 use Rattle.order_log.specs.Log.{LogView}
 use Rattle.profiles.specs.declared.profile.Profile.{Profile}
 use Rattle.rr_base.specs.Files.{Files}
-use Rattle.jobs.specs.Readings.{AreRead, IsFollowed, IsLogFile, ReadsLog}
-use Rattle.jobs.specs.Sources.{Compiles, CompilesFor, IsFound, IsTree, WalksAsSource}
+use Rattle.job_laws.specs.Readings.{AreRead, IsFollowed, IsLogFile, ReadsLog}
+use Rattle.job_laws.specs.Sources.{Compiles, CompilesFor, IsFound, IsTree, WalksAsSource}
 use Rattle.jobs.proofs.Found.{same_compile}
-use Rattle.jobs.proofs.InOrder.{comes_map, steps}
+use Rattle.job_laws.proofs.InOrder.{comes_map, steps}
 
 -- ---- the code
 

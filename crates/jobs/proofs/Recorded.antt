@@ -24,9 +24,9 @@ use Rattle.sync_objects.specs.Setup.{SetupView, IsWithinLimits}
 use Rattle.job_runs.proofs.Recorded.{log_of, setup_within}
 use Rattle.job_runs.specs.Recordings.{setup_of, IsRecorded}
 use Rattle.job_runs.specs.Works.{Work}
-use Rattle.jobs.specs.Readings.{ReadsProfile}
-use Rattle.jobs.specs.Recordings.{IsRecording, RecordsInput}
-use Rattle.jobs.specs.Sources.{Compiles, IsFound, IsSourceWalk, IsTree}
+use Rattle.job_laws.specs.Readings.{ReadsProfile}
+use Rattle.job_laws.specs.Recordings.{IsRecording, RecordsInput}
+use Rattle.job_laws.specs.Sources.{Compiles, IsFound, IsSourceWalk, IsTree}
 
 -- ---- the source
 

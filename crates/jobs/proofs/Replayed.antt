@@ -28,9 +28,9 @@ use Rattle.sync_objects.specs.declared.entry.Entry.{Entry}
 use Rattle.weak_code.specs.Weakened.{weakened}
 use Rattle.weak_lock_facts.specs.Ranges.{ranges_of}
 use Rattle.walk_answers.specs.Walking.{formula_of, outcome_of}
-use Rattle.jobs.specs.Asks.{HasLog, HasSource}
-use Rattle.jobs.specs.Readings.{IsFollowed, IsLogFile, IsLogOf}
-use Rattle.jobs.specs.Sources.{IsSourceWalk, WalksAsSource}
+use Rattle.job_laws.specs.Asks.{HasLog, HasSource}
+use Rattle.job_laws.specs.Readings.{IsFollowed, IsLogFile, IsLogOf}
+use Rattle.job_laws.specs.Sources.{IsSourceWalk, WalksAsSource}
 use Rattle.job_runs.specs.Works.{HasRun, IsIdle, Work}
 use Rattle.job_runs.proofs.Worked.{crew_is_idle, ran, told_of_run}
 

@@ -1,14 +1,14 @@
 // What orders two accesses of a log's run.
 
 ghost use Rattle.std.specs.Prelude.{◌≡◌, MatchResult};
-ghost use Rattle.jobs.specs.Chainings as spec;
-ghost use Rattle.jobs.specs.Chainings.{OrdersLog};
-ghost use Rattle.jobs.specs.Readings.{ReadsLog};
+ghost use Rattle.job_laws.specs.Chainings as spec;
+ghost use Rattle.job_laws.specs.Chainings.{OrdersLog};
+ghost use Rattle.job_laws.specs.Readings.{ReadsLog};
 ghost use Rattle.job_outcomes.specs.Faults.{ShelfStops};
-ghost use Rattle.jobs.specs.Wants.{LacksEither};
+ghost use Rattle.job_laws.specs.Wants.{LacksEither};
 ghost use Rattle.job_outcomes.specs.Steps.{Gives, Lacks};
 
-use crate::logs::followed;
+use crate::logs::{followed, let_both_go};
 use chain_report::Point;
 use command_line::Event;
 use job_outcomes::{Keeper, Outcome, Stop};
@@ -43,5 +43,7 @@ pub(crate) fn chain_log<'a, S: Keeper>(
 {
     let found = followed(alloc, source, log, shelf)?;
     let (weakened, log) = found;
-    or_stop(told_chain(alloc, &weakened, &log, point_of(one), point_of(other)))
+    let told = or_stop(told_chain(alloc, &weakened, &log, point_of(one), point_of(other)));
+    let_both_go(weakened, log);
+    told
 }

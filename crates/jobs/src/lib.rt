@@ -1,6 +1,6 @@
 //! The jobs of the program: the listings of a source, a recorded run, a run by a log, the profile of a log, the first
-//! access of a log's run that meets a formula, what orders two accesses of it, and a made source, which is recorded and
-//! replayed.
+//! access of a log's run that meets a formula, what orders two accesses of it, the state after its first entries, the rest
+//! of it from such a state, and a made source, which is recorded and replayed.
 //!
 //! Its contract: `chimera`: what is put, what is written and the status are those of an outcome of the words' job; each
 //! other end has its cause.
@@ -8,7 +8,7 @@
 #![tactic(auto)]
 
 mod chaining;
-mod laws;
+mod checkpoints;
 mod logs;
 mod making;
 mod profiling;
@@ -20,5 +20,4 @@ mod top;
 mod watching;
 mod weak_locks;
 
-pub use laws::{law_one_outcome, law_one_refusal, law_replay_repeats, law_statuses_have_causes};
 pub use top::chimera;

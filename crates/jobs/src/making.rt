@@ -2,15 +2,15 @@
 
 ghost use Rattle.std.specs.Prelude.{◌≡◌, ◌≢◌, ◌≤◌, ◌^◌, ◌++◌, codes, length, string_bytes, IfOk, MatchResult};
 ghost use Rattle.command_line.specs.Jobs.{record_told};
-ghost use Rattle.jobs.specs.Asks.{HasTree};
-ghost use Rattle.jobs.specs.Makings as spec;
+ghost use Rattle.job_laws.specs.Asks.{HasTree};
+ghost use Rattle.job_laws.specs.Makings as spec;
 ghost use Rattle.profiles.specs.declared.profile.Profile.TheVariants as profile;
-ghost use Rattle.jobs.specs.Sources.{Compiles, RunsAsSource};
+ghost use Rattle.job_laws.specs.Sources.{Compiles, RunsAsSource};
 ghost use Rattle.job_runs.specs.Works.{IsIdle, work_of};
 ghost use Rattle.job_outcomes.specs.Faults.{CrewShelfStops};
 ghost use Rattle.workload.specs.Program.{program_text};
 
-use crate::sources::compiled;
+use crate::sources::{compiled, let_go};
 use command_line::RecordJob;
 use compile_correct::{law_text_erased_walk, law_text_log};
 use crew::Crew;
@@ -116,5 +116,7 @@ pub(crate) fn make<'a, R: Threads + Wait + Sync, S: Keeper, C: Crew>(
     let weakened = made_code(alloc, text)?;
     let job = recording_job(name, log.as_str());
     let bytes = text.len() as u32;
-    made(rt, alloc, &weakened, count, bytes, &job, shelf, crew)
+    let told = made(rt, alloc, &weakened, count, bytes, &job, shelf, crew);
+    let_go(weakened);
+    told
 }

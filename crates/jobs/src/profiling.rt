@@ -1,15 +1,15 @@
 // The profile of a log.
 
 ghost use Rattle.std.specs.Prelude.{◌≡◌, IfOk, MatchResult};
-ghost use Rattle.jobs.specs.Profilings.{ShowsLog};
-ghost use Rattle.jobs.specs.Readings.{ReadsLog};
+ghost use Rattle.job_laws.specs.Profilings.{ShowsLog};
+ghost use Rattle.job_laws.specs.Readings.{ReadsLog};
 ghost use Rattle.job_outcomes.specs.Faults.{ShelfStops};
-ghost use Rattle.jobs.specs.Wants.{LacksEither};
+ghost use Rattle.job_laws.specs.Wants.{LacksEither};
 ghost use Rattle.job_outcomes.specs.Steps.{Gives, Lacks};
 ghost use Rattle.source_names.specs.Spelled.{HaveTexts};
 ghost use Rattle.walk_profiles.specs.Profiling.{ShowsProfile};
 
-use crate::logs::followed;
+use crate::logs::{followed, let_both_go};
 use job_outcomes::{Keeper, Outcome, Stop};
 use job_runs::or_stop;
 use lock_sound::{Weakened, law_weakened_runs};
@@ -49,5 +49,7 @@ pub(crate) fn profile_log<'a, S: Keeper>(
     let found = followed(alloc, source, log, shelf)?;
     let (weakened, log) = found;
     law_names_are_texts();
-    or_stop(shown(alloc, &weakened, &log, name))
+    let told = or_stop(shown(alloc, &weakened, &log, name));
+    let_both_go(weakened, log);
+    told
 }

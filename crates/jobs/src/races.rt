@@ -2,15 +2,15 @@
 
 ghost use Rattle.std.specs.Prelude.{◌≡◌, ◌≤◌, ◌^◌, length, IfErr, IfOk, MatchResult};
 ghost use Rattle.command_line.specs.declared.answer.Answer.TheVariants as answer;
-ghost use Rattle.jobs.specs.Listings.{ListsRaces};
-ghost use Rattle.jobs.specs.Readings.{ReadsSource};
-ghost use Rattle.jobs.specs.Sources.{IsTree};
+ghost use Rattle.job_laws.specs.Listings.{ListsRaces};
+ghost use Rattle.job_laws.specs.Readings.{ReadsSource};
+ghost use Rattle.job_laws.specs.Sources.{IsTree};
 ghost use Rattle.job_outcomes.specs.Faults.{IsPure, ShelfStops};
 ghost use Rattle.listing.specs.Text.{races_text_of};
 ghost use Rattle.job_outcomes.specs.Outcomes.{answers};
 ghost use Rattle.job_outcomes.specs.Steps.{Comes, Gives, Lacks};
 
-use crate::sources::{SOURCE_BYTES, compiled};
+use crate::sources::{SOURCE_BYTES, compiled, let_go};
 use command_line::{Answer, Part};
 use job_outcomes::{Keeper, Outcome, Stop, file};
 use job_runs::or_stop;
@@ -34,7 +34,11 @@ fn listed<'a>(alloc: Global, source: &[u8]) -> Result<Outcome<'a>, Stop>
     ensures pure { IfErr result IsPure }
 {
     match compiled(alloc, source, &Profile::All) {
-        Ok(weakened) => or_stop(listing_of(alloc, &weakened)),
+        Ok(weakened) => {
+            let told = or_stop(listing_of(alloc, &weakened));
+            let_go(weakened);
+            told
+        }
         Err(stop) => Err(stop),
     }
 }

@@ -5,18 +5,18 @@ ghost use Rattle.command_line.specs.Jobs.{HasRecordLimits, record_told};
 ghost use Rattle.command_line.specs.Jobs.Asked.{Record};
 ghost use Rattle.job_runs.specs.Recordings.{HasInput};
 ghost use Rattle.job_runs.specs.Works.{IsIdle, work_of};
-ghost use Rattle.jobs.specs.Asks.{AsksCrew, AsksInput, HasTree};
-ghost use Rattle.jobs.specs.Moments.{CountsFor, moment};
-ghost use Rattle.jobs.specs.Readings.{ReadsProfile};
-ghost use Rattle.jobs.specs.Recordings.{RecordsInput};
-ghost use Rattle.jobs.specs.Sources.{IsTree};
-ghost use Rattle.jobs.specs.Wants.{LacksEither};
+ghost use Rattle.job_laws.specs.Asks.{AsksCrew, AsksInput, HasTree};
+ghost use Rattle.job_laws.specs.Moments.{CountsFor, moment};
+ghost use Rattle.job_laws.specs.Readings.{ReadsProfile};
+ghost use Rattle.job_laws.specs.Recordings.{RecordsInput};
+ghost use Rattle.job_laws.specs.Sources.{IsTree};
+ghost use Rattle.job_laws.specs.Wants.{LacksEither};
 ghost use Rattle.job_profiles.specs.Profiles.{LacksProfile, named as named_of};
 ghost use Rattle.order_log.specs.Log.{HasNames};
 ghost use Rattle.job_outcomes.specs.Faults.{RunStops};
 ghost use Rattle.job_outcomes.specs.Steps.{Comes, Gives};
 
-use crate::sources::{SOURCE_BYTES, compiled};
+use crate::sources::{SOURCE_BYTES, compiled, let_go};
 use command_line::{Part, RecordJob};
 use compile_correct::law_text_log;
 use crew::Crew;
@@ -54,7 +54,11 @@ fn recorded<'a, R: Threads + Wait + Sync, I: Source, C: Crew>(
     law_text_log();
     law_ordered_walk();
     match compiled(alloc, source, &profile) {
-        Ok(weakened) => recorded_code(rt, alloc, &weakened, profile, job, input, crew),
+        Ok(weakened) => {
+            let told = recorded_code(rt, alloc, &weakened, profile, job, input, crew);
+            let_go(weakened);
+            told
+        }
         Err(stop) => Err(stop),
     }
 }

@@ -2,14 +2,14 @@
 
 ghost use Rattle.std.specs.Prelude.{◌≡◌, MatchResult, option_map};
 ghost use Rattle.job_runs.specs.Works.{IsIdle, work_of};
-ghost use Rattle.jobs.specs.Asks.{HasLog, HasSource};
-ghost use Rattle.jobs.specs.Readings.{ReadsLog};
-ghost use Rattle.jobs.specs.Replays.{Replays};
+ghost use Rattle.job_laws.specs.Asks.{HasLog, HasSource};
+ghost use Rattle.job_laws.specs.Readings.{ReadsLog};
+ghost use Rattle.job_laws.specs.Replays.{Replays};
 ghost use Rattle.job_outcomes.specs.Faults.{CrewShelfStops};
-ghost use Rattle.jobs.specs.Wants.{LacksEither};
+ghost use Rattle.job_laws.specs.Wants.{LacksEither};
 ghost use Rattle.job_outcomes.specs.Steps.{Gives, Lacks};
 
-use crate::logs::followed;
+use crate::logs::{followed, let_both_go};
 use crew::Crew;
 use job_outcomes::{Keeper, Outcome, Stop};
 use job_runs::told_walk;
@@ -39,5 +39,7 @@ pub(crate) fn replay<'a, R: Threads + Wait + Sync, S: Keeper, C: Crew>(
 {
     let found = followed(alloc, source, log, shelf)?;
     let (weakened, log) = found;
-    told_walk(rt, alloc, &weakened, &log, reads, crew)
+    let told = told_walk(rt, alloc, &weakened, &log, reads, crew);
+    let_both_go(weakened, log);
+    told
 }

@@ -1,7 +1,7 @@
 // From the bytes of a source to its code.
 
 ghost use Rattle.std.specs.Prelude.{◌≡◌, ◌≤◌, ◌^◌, length};
-ghost use Rattle.jobs.specs.Sources.{Compiles};
+ghost use Rattle.job_laws.specs.Sources.{Compiles};
 ghost use Rattle.command_line.specs.declared.answer.Answer.TheVariants as answer;
 
 use command_line::Answer;
@@ -24,6 +24,9 @@ fn refusal_of(fault: SourceFault) -> Answer
         column: fault.at.column,
     }
 }
+
+/// Lets a code go. It has many lists, which are let go here for all who had it made.
+pub(crate) fn let_go(_weakened: Weakened) {}
 
 /// The code of a source, with what the analyses find of it, and with its weak locks for this profile.
 pub(crate) fn compiled(alloc: Global, source: &[u8], profile: &Profile) -> Result<Weakened, Stop>

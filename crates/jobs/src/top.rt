@@ -2,14 +2,15 @@
 
 ghost use Rattle.std.specs.Prelude.{◌≡◌, map, string_bytes, option_map, IfSome, IsTrue, Some};
 ghost use Rattle.command_line.specs.Jobs.{HasLimits, job_of as job_by, told};
-ghost use Rattle.jobs.specs.Asks.{AsksCrew, AsksInput};
-ghost use Rattle.jobs.specs.Headline.{Headline};
-ghost use Rattle.jobs.specs.Jobs.{is_status};
-ghost use Rattle.jobs.specs.Moments.{ComesFor, CountsFor, EndsFor, StopsFor, moment, sight_of};
-ghost use Rattle.jobs.specs.Wants.{LacksFile};
+ghost use Rattle.job_laws.specs.Asks.{AsksCrew, AsksInput};
+ghost use Rattle.job_laws.specs.Headline.{Headline};
+ghost use Rattle.job_laws.specs.Jobs.{is_status};
+ghost use Rattle.job_laws.specs.Moments.{ComesFor, CountsFor, EndsFor, StopsFor, moment, sight_of};
+ghost use Rattle.job_laws.specs.Wants.{LacksFile};
 ghost use Rattle.rr_base.specs.Faults.{Rose};
 
 use crate::chaining::chain_log;
+use crate::checkpoints::{go_on_from, keep_state};
 use crate::making::make;
 use crate::profiling::profile_log;
 use crate::races::races;
@@ -60,6 +61,13 @@ fn outcome_of_job<'a, R: Threads + Wait + Sync, I: Source, S: Keeper, C: Crew>(
             one,
             other,
         } => chain_log(alloc, source, log, one, other, shelf),
+        Job::Checkpoint {
+            source,
+            log,
+            count,
+            name,
+        } => keep_state(alloc, source, log, count, name, shelf),
+        Job::Resume { source, log, name } => go_on_from(alloc, source, log, name, shelf),
         Job::Make { count, name } => make(rt, alloc, count, name, shelf, crew),
     }
 }
@@ -97,10 +105,10 @@ fn do_job<'a, R: Threads + Wait + Sync, I: Source, O: Sink, S: Keeper, C: Crew>(
 }
 
 /// Does what the words after the program's name ask for, and answers the exit status: 0 where the run ended, or the listing, the
-/// profile, the access or the chain was written, 1 where the words are no job, 2 where the source is refused, 3 where a thread trapped, 4 where the log is refused, 5
+/// profile, the access, the chain or the checkpoint was written, 1 where the words are no job, 2 where the source is refused, 3 where a thread trapped, 4 where the log is refused, 5
 /// where it isn't one of this program, 6 where the profile is refused, 7 where the input failed, 8 where the sink did, 9 where the
-/// shelf did, 10 where the crew did, 11 where a file or the input has too many bytes, 12 without memory. Nothing is put but where
-/// the run ended or a thread trapped, and a made source and its log, which are put on the way. Only a recording touches `input`, and
+/// shelf did, 10 where the crew did, 11 where a file or the input has too many bytes, 12 without memory, 13 where the checkpoint is
+/// refused. Nothing is put but where the run ended or a thread trapped, a checkpoint of a log, and a made source and its log, which are put on the way. Only a recording touches `input`, and
 /// only a recording, a replay and the making of a source have the crew run threads: a job for each slot, with a turn for each
 /// entry of the log, or more; a refusal comes before that.
 pub fn chimera<R: Threads + Wait + Sync, I: Source, O: Sink, S: Keeper, C: Crew>(

@@ -1,14 +1,14 @@
 // The first access of a log's run that meets a formula.
 
 ghost use Rattle.std.specs.Prelude.{◌≡◌, IfOk, MatchResult};
-ghost use Rattle.jobs.specs.Readings.{ReadsLog};
+ghost use Rattle.job_laws.specs.Readings.{ReadsLog};
 ghost use Rattle.job_outcomes.specs.Faults.{ShelfStops};
-ghost use Rattle.jobs.specs.Wants.{LacksEither};
+ghost use Rattle.job_laws.specs.Wants.{LacksEither};
 ghost use Rattle.job_outcomes.specs.Steps.{Gives, Lacks};
-ghost use Rattle.jobs.specs.Watchings.{TellsLog};
+ghost use Rattle.job_laws.specs.Watchings.{TellsLog};
 ghost use Rattle.walk_hits.specs.Telling.{TellsHit};
 
-use crate::logs::followed;
+use crate::logs::{followed, let_both_go};
 use job_outcomes::{Keeper, Outcome, Stop};
 use job_runs::or_stop;
 use lock_sound::{Weakened, law_weakened_runs};
@@ -46,5 +46,7 @@ pub(crate) fn watch_log<'a, S: Keeper>(
 {
     let found = followed(alloc, source, log, shelf)?;
     let (weakened, log) = found;
-    or_stop(told(alloc, &weakened, &log, formula))
+    let told = or_stop(told(alloc, &weakened, &log, formula));
+    let_both_go(weakened, log);
+    told
 }

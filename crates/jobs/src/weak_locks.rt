@@ -2,17 +2,17 @@
 
 ghost use Rattle.std.specs.Prelude.{◌≡◌, ◌≤◌, ◌^◌, length, IfErr, IfOk, MatchResult, option_map};
 ghost use Rattle.command_line.specs.declared.answer.Answer.TheVariants as answer;
-ghost use Rattle.jobs.specs.Listings.{ListsWeakLocks};
-ghost use Rattle.jobs.specs.Readings.{ReadsProfile};
-ghost use Rattle.jobs.specs.Sources.{IsTree};
-ghost use Rattle.jobs.specs.Wants.{LacksEither};
+ghost use Rattle.job_laws.specs.Listings.{ListsWeakLocks};
+ghost use Rattle.job_laws.specs.Readings.{ReadsProfile};
+ghost use Rattle.job_laws.specs.Sources.{IsTree};
+ghost use Rattle.job_laws.specs.Wants.{LacksEither};
 ghost use Rattle.job_profiles.specs.Profiles.{LacksProfile};
 ghost use Rattle.job_outcomes.specs.Faults.{IsPure, ShelfStops};
 ghost use Rattle.listing.specs.WeakText.{weak_text_of};
 ghost use Rattle.job_outcomes.specs.Outcomes.{answers};
 ghost use Rattle.job_outcomes.specs.Steps.{Comes, Gives};
 
-use crate::sources::{SOURCE_BYTES, compiled};
+use crate::sources::{SOURCE_BYTES, compiled, let_go};
 use command_line::{Answer, Part};
 use job_outcomes::{Keeper, Outcome, Stop, file};
 use job_profiles::profile_of;
@@ -39,7 +39,11 @@ fn listed<'a>(alloc: Global, source: &[u8], profile: &Profile) -> Result<Outcome
     ensures pure { IfErr result IsPure }
 {
     match compiled(alloc, source, profile) {
-        Ok(weakened) => or_stop(listing_of(alloc, &weakened)),
+        Ok(weakened) => {
+            let told = or_stop(listing_of(alloc, &weakened));
+            let_go(weakened);
+            told
+        }
         Err(stop) => Err(stop),
     }
 }

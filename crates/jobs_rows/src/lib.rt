@@ -5,6 +5,8 @@
 #[cfg(test)]
 mod chain_tests;
 #[cfg(test)]
+mod checkpoint_tests;
+#[cfg(test)]
 mod checks;
 #[cfg(test)]
 mod make_tests;

@@ -3,7 +3,7 @@ use Rattle.command_line.specs.Endings.{Sight}
 use Rattle.command_line.specs.Jobs.{job_of}
 use Rattle.job_outcomes.specs.Faults.{Counts}
 use Rattle.job_runs.specs.Works.{Work}
-use Rattle.jobs.specs.Moments.{EndsFor, Moment}
+use Rattle.job_laws.specs.Moments.{EndsFor, Moment}
 use Rattle.chimera.specs.Mains.{IsEndOf}
 use Rattle.chimera.proofs.run.Goals as goal
 

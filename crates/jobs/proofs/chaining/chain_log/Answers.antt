@@ -1,7 +1,7 @@
 use Rattle.std.proofs.Common.{subst}
 use Rattle.std.specs.Prelude.{IfOk}
 use Rattle.walk_chains.specs.Telling.{TellsChain}
-use Rattle.jobs.specs.Chainings.{OrdersLog, point_of}
+use Rattle.job_laws.specs.Chainings.{OrdersLog, point_of}
 use Rattle.std.proofs.lemmas.Result.{err_from_is_err_and}
 use Rattle.jobs.proofs.OfLog.{followed_gives, followed_stops, no_fault}
 use Rattle.jobs.proofs.chaining.chain_log.Goals as goal
@@ -16,7 +16,7 @@ returns-clause-outcome g c =
     let w = c.in_ok-found.found.0 in
     let log = c.in_ok-found.found.1 in
     followed_gives (g.S.Shelf.files c.args.shelf.now) c.args.source.now c.args.log.now (λ view. OrdersLog view (point_of c.args.one) (point_of c.args.other)) w log (TellsChain w.weak log.setup log.entries (point_of c.args.one) (point_of c.args.other))
-    c.in_ok-found.ensures.found (λ os o is walks tells. record { found = w; is = is; source = walks; tells = tells }) c.told_chain.result c.or_stop.result (subst (λ p. IfOk c.told_chain.result (TellsChain w.weak log.setup log.entries (point_of c.args.one) p)) c.point_of-2.ensures (subst (λ p. IfOk c.told_chain.result (TellsChain w.weak log.setup log.entries p c.point_of-2.result)) c.point_of.ensures c.told_chain.ensures)) c.or_stop.ensures
+    c.in_ok-found.ensures.found (λ os o is walks tells. record { found = w; is = is; source = walks; tells = tells }) c.told_chain.result c.or_stop-told.result (subst (λ p. IfOk c.told_chain.result (TellsChain w.weak log.setup log.entries (point_of c.args.one) p)) c.point_of-2.ensures (subst (λ p. IfOk c.told_chain.result (TellsChain w.weak log.setup log.entries p c.point_of-2.result)) c.point_of.ensures c.told_chain.ensures)) c.or_stop-told.ensures
 
 pub returns-clause-faults : goal.returns-clause-faults
-returns-clause-faults g c = no_fault c.or_stop.result _ _ _ c.in_ok-found.ensures.faults c.or_stop.ensures
+returns-clause-faults g c = no_fault c.or_stop-told.result _ _ _ c.in_ok-found.ensures.faults c.or_stop-told.ensures

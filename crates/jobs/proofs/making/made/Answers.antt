@@ -1,7 +1,7 @@
 use Rattle.std.proofs.Common.{refl, sym, subst, [], length, ◌≤◌, arith}
 use Rattle.command_line.specs.Jobs.{HasRecordLimits, record_told}
 use Rattle.profiles.specs.declared.profile.Profile.TheVariants as profile
-use Rattle.jobs.specs.Makings.{recording_of}
+use Rattle.job_laws.specs.Makings.{recording_of}
 use Rattle.jobs.proofs.Made.{crew_ends, default_limits, later_ends, making, making_is_idle, not_recorded, same_logged}
 use Rattle.job_runs.proofs.Worked.{crew_is_idle}
 use Rattle.jobs.proofs.making.made.Goals as goal

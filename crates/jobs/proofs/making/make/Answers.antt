@@ -1,8 +1,8 @@
 use Rattle.std.proofs.Common.{◌≡◌, ◌≤◌, refl, sym, ◌∙◌, subst, length, Err, arith}
 use Rattle.std.proofs.lemmas.Result.{err_from_is_err_and}
 use Rattle.profiles.specs.declared.profile.Profile.TheVariants as profile
-use Rattle.jobs.specs.Asks.{HasTree}
-use Rattle.jobs.specs.Sources.{RunsAsSource}
+use Rattle.job_laws.specs.Asks.{HasTree}
+use Rattle.job_laws.specs.Sources.{RunsAsSource}
 use Rattle.workload.specs.Program.{program_text}
 use Rattle.jobs.proofs.Found.{same_compile}
 use Rattle.jobs.proofs.Made.{later_ends, made_short, not_made, nothing_put, once_put, source_is_put, source_not_put}
@@ -43,8 +43,8 @@ overflow_cast-bytes g c =
     let short : length c.as_slice-text.result.now ≤ 1048576 = subst (λ xs. length xs ≤ 1048576) (sym c.as_slice-text.ensures) (made_short c.args.count c.in_ok-source.source c.requires.to c.in_ok-source.ensures.len) in
     omega (arith, short)
 
-pub made-requires-clause-code : goal.made-requires-clause-code
-made-requires-clause-code g c κs within =
+pub made-told-requires-clause-code : goal.made-told-requires-clause-code
+made-told-requires-clause-code g c κs within =
     let text : c.as_slice-text.result.now ≡ program_text c.args.count = c.as_slice-text.ensures ∙ c.in_ok-source.ensures.text in
     subst (λ xs. RunsAsSource xs c.in_ok-weakened.weakened) text c.in_ok-weakened.ensures.runs
 
@@ -53,11 +53,11 @@ returns-clause-outcome g c =
     let old = g.S.Shelf.files c.args.shelf.now in
     let between = g.S.Shelf.files c.keep.new.self in
     let text : c.as_slice-text.result.now ≡ program_text c.args.count = c.as_slice-text.ensures ∙ c.in_ok-source.ensures.text in
-    once_put _ _ c.args.count c.args.name.now c.recording_job-job.result.source.now old between (g.S.Shelf.files c.made.new.shelf) c.made.result c.recording_job-job.ensures.name c.made.ensures.outcome
+    once_put _ _ c.args.count c.args.name.now c.recording_job-job.result.source.now old between (g.S.Shelf.files c.made-told.new.shelf) c.made-told.result c.recording_job-job.ensures.name c.made-told.ensures.outcome
     (source_is_put c.args.count c.args.name.now c.as_slice-text.result.now old between text c.in_ok-keep.ensures.ok)
 
 pub returns-clause-faults : goal.returns-clause-faults
-returns-clause-faults g c = later_ends c.made.result _ _ _ _ _ _ c.made.ensures.faults c.in_ok-keep.ensures.faults refl
+returns-clause-faults g c = later_ends c.made-told.result _ _ _ _ _ _ c.made-told.ensures.faults c.in_ok-keep.ensures.faults refl
 
 pub returns-clause-runs : goal.returns-clause-runs
 returns-clause-runs g c failed =

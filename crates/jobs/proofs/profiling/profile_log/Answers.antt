@@ -1,5 +1,5 @@
 use Rattle.walk_profiles.specs.Profiling.{ShowsProfile}
-use Rattle.jobs.specs.Profilings.{ShowsLog}
+use Rattle.job_laws.specs.Profilings.{ShowsLog}
 use Rattle.std.proofs.lemmas.Result.{err_from_is_err_and}
 use Rattle.jobs.proofs.OfLog.{followed_gives, followed_stops, no_fault}
 use Rattle.jobs.proofs.profiling.profile_log.Goals as goal
@@ -14,7 +14,7 @@ returns-clause-outcome g c =
     let w = c.in_ok-found.found.0 in
     let log = c.in_ok-found.found.1 in
     followed_gives (g.S.Shelf.files c.args.shelf.now) c.args.source.now c.args.log.now (λ view. ShowsLog view c.args.name.now) w log (ShowsProfile w.weak log.setup log.entries c.args.name.now)
-    c.in_ok-found.ensures.found (λ os o is walks tells. record { found = w; is = is; source = walks; shows = tells }) c.shown.result c.or_stop.result c.shown.ensures c.or_stop.ensures
+    c.in_ok-found.ensures.found (λ os o is walks tells. record { found = w; is = is; source = walks; shows = tells }) c.shown.result c.or_stop-told.result c.shown.ensures c.or_stop-told.ensures
 
 pub shown-requires : goal.shown-requires
 shown-requires g c =
@@ -23,4 +23,4 @@ shown-requires g c =
     c.law_names_are_texts.ensures by.0 by.3.os w by.3.tree by.3.is.is by.3.is.of
 
 pub returns-clause-faults : goal.returns-clause-faults
-returns-clause-faults g c = no_fault c.or_stop.result _ _ _ c.in_ok-found.ensures.faults c.or_stop.ensures
+returns-clause-faults g c = no_fault c.or_stop-told.result _ _ _ c.in_ok-found.ensures.faults c.or_stop-told.ensures

@@ -10,9 +10,9 @@ pub returns-in-Ok-clause-outcome : goal.returns-in-Ok-clause-outcome
 returns-in-Ok-clause-outcome g c =
     let w = c.in-Ok.weakened in
     let h = c.in-Ok.ensures in
-    recorded_gives _ _ c.args.source.now (g.I.Source.left c.args.input.now) (record_told c.args.job.now) c.args.profile w c.requires.limits c.requires.names h c.recorded_code.result
+    recorded_gives _ _ c.args.source.now (g.I.Source.left c.args.input.now) (record_told c.args.job.now) c.args.profile w c.requires.limits c.requires.names h c.recorded_code-told.result
     (λ s labels end within ran ended. let t = c.law_text_log.ensures c.args.source.now h.0 w s labels end c.requires.short h.1 h.2.is h.2.of within ran ended in record { runs = t.1; prints = t.2; ordered = c.law_ordered_walk.ensures w s (log_of end) end h.2.is within t.0 })
-    c.recorded_code.ensures.outcome
+    c.recorded_code-told.ensures.outcome
 
 pub returns-clause-outcome : goal.returns-clause-outcome
 returns-clause-outcome g c = not_compiled c.args.source.now c.args.profile _ c.in-Err.stop c.in-Err.ensures
@@ -24,10 +24,10 @@ pub compiled-requires : goal.compiled-requires
 compiled-requires g c = c.requires.short
 
 pub returns-in-Ok-clause-faults : goal.returns-in-Ok-clause-faults
-returns-in-Ok-clause-faults g c = c.recorded_code.ensures.faults
+returns-in-Ok-clause-faults g c = c.recorded_code-told.ensures.faults
 
 pub returns-in-Ok-clause-idle : goal.returns-in-Ok-clause-idle
-returns-in-Ok-clause-idle g c = c.recorded_code.ensures.idle
+returns-in-Ok-clause-idle g c = c.recorded_code-told.ensures.idle
 
 pub returns-clause-idle : goal.returns-clause-idle
 returns-clause-idle g c = all_is_idle _ _ (Err c.in-Err.stop) refl

@@ -1,6 +1,6 @@
 use Rattle.std.proofs.Common.{refl}
 use Rattle.std.proofs.lemmas.Result.{err_from_is_err_and}
-use Rattle.jobs.specs.Replays.{Replays}
+use Rattle.job_laws.specs.Replays.{Replays}
 use Rattle.job_runs.proofs.Worked.{all_is_idle}
 use Rattle.jobs.proofs.OfLog.{crew_gives, followed_stops}
 use Rattle.jobs.proofs.Replayed.{TellsWalk, has_source, has_log, replayed_is_idle, shelf_and_crew}
@@ -20,13 +20,13 @@ returns-clause-outcome g c =
     let log = c.in_ok-found.found.1 in
     crew_gives (g.S.Shelf.files c.args.shelf.now) c.args.source.now c.args.log.now (λ view. Replays _ _ view _) w log (TellsWalk _ _ log _ w) c.in_ok-found.ensures.found
     (λ os o is walks tells. record { found = w; is = is; walk = tells.0; walks = tells.1; source = walks; crew = tells.2; told = tells.3 })
-    c.told_walk.result _ _ c.told_walk.ensures.outcome c.told_walk.ensures.faults
+    c.told_walk-told.result _ _ c.told_walk-told.ensures.outcome c.told_walk-told.ensures.faults
 
 pub returns-clause-idle : goal.returns-clause-idle
-returns-clause-idle g c = replayed_is_idle _ _ c.in_ok-found.found.1 _ c.in_ok-found.found.0 c.told_walk.result _ _ c.told_walk.ensures.outcome c.told_walk.ensures.faults
+returns-clause-idle g c = replayed_is_idle _ _ c.in_ok-found.found.1 _ c.in_ok-found.found.0 c.told_walk-told.result _ _ c.told_walk-told.ensures.outcome c.told_walk-told.ensures.faults
 
 pub returns-clause-faults : goal.returns-clause-faults
-returns-clause-faults g c = shelf_and_crew c.told_walk.result _ _ _ _ c.in_ok-found.ensures.faults c.told_walk.ensures.faults
+returns-clause-faults g c = shelf_and_crew c.told_walk-told.result _ _ _ _ c.in_ok-found.ensures.faults c.told_walk-told.ensures.faults
 
 pub returns-clause-runs : goal.returns-clause-runs
 returns-clause-runs g c failed =

@@ -1,9 +1,9 @@
 use Rattle.std.proofs.Common.{refl}
 use Rattle.std.specs.Prelude.{map, string_bytes}
 use Rattle.command_line.specs.Jobs.{job_of}
-use Rattle.jobs.specs.Moments.{EndsFor, moment, sight_of}
+use Rattle.job_laws.specs.Moments.{EndsFor, moment, sight_of}
 use Rattle.jobs.proofs.Ending.{for_found, memory_ends}
-use Rattle.jobs.proofs.Headlines.{headline}
+use Rattle.job_laws.proofs.Headlines.{headline}
 use Rattle.jobs.proofs.top.chimera.Goals as goal
 
 pub returns-in-Ok-clause-ends : goal.returns-in-Ok-clause-ends

@@ -1,10 +1,10 @@
 use Rattle.std.proofs.Common.{refl, sym, subst}
 use Rattle.command_line.specs.Jobs.{told}
 use Rattle.command_line.specs.declared.job.Job.{Job}
-use Rattle.jobs.specs.Asks.{AsksCrew, AsksInput}
-use Rattle.jobs.specs.Moments.{ComesFor, StopsFor, moment}
+use Rattle.job_laws.specs.Asks.{AsksCrew, AsksInput}
+use Rattle.job_laws.specs.Moments.{ComesFor, StopsFor, moment}
 use Rattle.jobs.proofs.Asked.{none_read, stops_by}
-use Rattle.jobs.proofs.Outcomes.{chain_comes, make_comes, profile_comes, races_come, record_comes, replay_comes, watch_comes, weaken_come}
+use Rattle.job_laws.proofs.Outcomes.{chain_comes, checkpoint_comes, make_comes, profile_comes, races_come, record_comes, replay_comes, resume_comes, watch_comes, weaken_come}
 use Rattle.jobs.proofs.top.outcome_of_job.Goals as goal
 use Rattle.std.specs.Prelude.{Some}
 
@@ -37,6 +37,18 @@ returns-in-Chain-clause-outcome g c =
     let old = moment g.S.Shelf g.I.Source g.C.Crew c.args.shelf.now c.args.input.now c.args.crew.now in
     let new = moment g.S.Shelf g.I.Source g.C.Crew c.chain_log.new.shelf c.args.input.now c.args.crew.now in
     subst (λ (j : Job). ComesFor (told j) old new c.chain_log.result) (sym c.in-Chain.is) (chain_comes old new c.chain_log.result c.chain_log.ensures.files refl _ _ _ _ c.chain_log.ensures.outcome)
+
+pub returns-in-Checkpoint-clause-outcome : goal.returns-in-Checkpoint-clause-outcome
+returns-in-Checkpoint-clause-outcome g c =
+    let old = moment g.S.Shelf g.I.Source g.C.Crew c.args.shelf.now c.args.input.now c.args.crew.now in
+    let new = moment g.S.Shelf g.I.Source g.C.Crew c.keep_state.new.shelf c.args.input.now c.args.crew.now in
+    subst (λ (j : Job). ComesFor (told j) old new c.keep_state.result) (sym c.in-Checkpoint.is) (checkpoint_comes old new c.keep_state.result c.keep_state.ensures.files refl _ _ _ _ c.keep_state.ensures.outcome)
+
+pub returns-in-Resume-clause-outcome : goal.returns-in-Resume-clause-outcome
+returns-in-Resume-clause-outcome g c =
+    let old = moment g.S.Shelf g.I.Source g.C.Crew c.args.shelf.now c.args.input.now c.args.crew.now in
+    let new = moment g.S.Shelf g.I.Source g.C.Crew c.go_on_from.new.shelf c.args.input.now c.args.crew.now in
+    subst (λ (j : Job). ComesFor (told j) old new c.go_on_from.result) (sym c.in-Resume.is) (resume_comes old new c.go_on_from.result c.go_on_from.ensures.files refl _ _ _ c.go_on_from.ensures.outcome)
 
 pub returns-in-Record-clause-outcome : goal.returns-in-Record-clause-outcome
 returns-in-Record-clause-outcome g c =

@@ -1,5 +1,5 @@
 use Rattle.walk_hits.specs.Telling.{TellsHit}
-use Rattle.jobs.specs.Watchings.{TellsLog}
+use Rattle.job_laws.specs.Watchings.{TellsLog}
 use Rattle.std.proofs.lemmas.Result.{err_from_is_err_and}
 use Rattle.jobs.proofs.OfLog.{followed_gives, followed_stops, no_fault}
 use Rattle.jobs.proofs.watching.watch_log.Goals as goal
@@ -14,7 +14,7 @@ returns-clause-outcome g c =
     let w = c.in_ok-found.found.0 in
     let log = c.in_ok-found.found.1 in
     followed_gives (g.S.Shelf.files c.args.shelf.now) c.args.source.now c.args.log.now (λ view. TellsLog view c.args.formula) w log (TellsHit w.weak log.setup log.entries c.args.formula)
-    c.in_ok-found.ensures.found (λ os o is walks tells. record { found = w; is = is; source = walks; tells = tells }) c.told.result c.or_stop.result c.told.ensures c.or_stop.ensures
+    c.in_ok-found.ensures.found (λ os o is walks tells. record { found = w; is = is; source = walks; tells = tells }) c.told.result c.or_stop-told.result c.told.ensures c.or_stop-told.ensures
 
 pub returns-clause-faults : goal.returns-clause-faults
-returns-clause-faults g c = no_fault c.or_stop.result _ _ _ c.in_ok-found.ensures.faults c.or_stop.ensures
+returns-clause-faults g c = no_fault c.or_stop-told.result _ _ _ c.in_ok-found.ensures.faults c.or_stop-told.ensures

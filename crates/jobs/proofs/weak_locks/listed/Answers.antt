@@ -1,4 +1,4 @@
-use Rattle.jobs.specs.Listings.{ListsWeakLocks}
+use Rattle.job_laws.specs.Listings.{ListsWeakLocks}
 use Rattle.jobs.proofs.Found.{locks_listed, memory_is_pure, not_compiled, compile_is_pure, or_memory}
 use Rattle.jobs.proofs.weak_locks.listed.Goals as goal
 
@@ -6,10 +6,10 @@ pub compiled-requires : goal.compiled-requires
 compiled-requires c = c.requires
 
 pub returns-in-Ok-clause-outcome : goal.returns-in-Ok-clause-outcome
-returns-in-Ok-clause-outcome c = locks_listed c.args.source.now c.args.profile.now c.in-Ok.weakened c.or_stop.result c.in-Ok.ensures (or_memory _ c.listing_of.result c.or_stop.result c.listing_of.ensures c.or_stop.ensures)
+returns-in-Ok-clause-outcome c = locks_listed c.args.source.now c.args.profile.now c.in-Ok.weakened c.or_stop-told.result c.in-Ok.ensures (or_memory _ c.listing_of.result c.or_stop-told.result c.listing_of.ensures c.or_stop-told.ensures)
 
 pub returns-in-Ok-clause-pure : goal.returns-in-Ok-clause-pure
-returns-in-Ok-clause-pure c = memory_is_pure _ c.or_stop.result c.or_stop.ensures
+returns-in-Ok-clause-pure c = memory_is_pure _ c.or_stop-told.result c.or_stop-told.ensures
 
 pub returns-in-Err-clause-outcome : goal.returns-in-Err-clause-outcome
 returns-in-Err-clause-outcome c = not_compiled c.args.source.now c.args.profile.now (ListsWeakLocks c.args.profile.now) c.in-Err.stop c.in-Err.ensures

@@ -1,0 +1,9 @@
+pub mod Caused
+pub mod Headlines
+pub mod InOrder
+pub mod Outcomes
+pub mod Refused
+pub mod Repeated
+pub mod Resumed
+pub mod Unique
+pub mod Worked
