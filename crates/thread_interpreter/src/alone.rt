@@ -11,10 +11,38 @@ use crate::place::{instrs_at, pointers_at};
 use crate::state::ThreadState;
 use flow_code::{Act, Code, Instr, Phase, Work, compute};
 use sync_objects::Setup;
-use word_semantics::word;
+use word_semantics::{based, register, word};
 
 impl ThreadState {
     // Computes into a register and goes on, unless that traps.
+    fn result_alone(
+        &mut self,
+        code: &Code,
+        setup: &Setup,
+        pointers: &[bool],
+        into: u32,
+        work: &Work,
+    ) -> bool
+        requires instr { self.old.thread.top.instr + 1 < 2 ^ 64 }
+        requires pointers { pointers.now ≡ pointers_of code.now self.old.thread.top }
+        ensures quiet { result ≡ true → quiet_unless (work_of setup.now.slots code.now.sites (pointers_of code.now self.old.thread.top) self.old.thread.top.registers work.now) ≡ due.Quiet }
+        ensures thread { result ≡ true → self.new.thread ≡ computed self.old.thread into (work_of setup.now.slots code.now.sites (pointers_of code.now self.old.thread.top) self.old.thread.top.registers work.now) }
+        ensures same { result ≡ false → self.new.thread ≡ self.old.thread }
+    {
+        let value = compute(
+            setup.slots(),
+            code.sites.as_slice(),
+            pointers,
+            self.top.registers(),
+            work,
+        );
+        let is_quiet = value.is_ok();
+        self.compute(into, value);
+        is_quiet
+    }
+
+    // The same, with what most works do at hand.
+    #[inline(always)]
     fn work_alone(
         &mut self,
         code: &Code,
@@ -29,23 +57,25 @@ impl ThreadState {
         ensures thread { result ≡ true → self.new.thread ≡ computed self.old.thread into (work_of setup.now.slots code.now.sites (pointers_of code.now self.old.thread.top) self.old.thread.top.registers work.now) }
         ensures same { result ≡ false → self.new.thread ≡ self.old.thread }
     {
-        if let Work::Constant(value) = work {
-            self.top.set_register(into, word(*value));
-            self.top.pass();
-            return true;
+        match *work {
+            Work::Constant(value) => {
+                self.compute(into, Ok(word(value)));
+                true
+            }
+            Work::Copy(r) => {
+                let value = register(self.top.registers(), r);
+                self.compute(into, Ok(value));
+                true
+            }
+            Work::Address(address) => {
+                self.compute(into, Ok(based(setup.slots(), address)));
+                true
+            }
+            _ => self.result_alone(code, setup, pointers, into, work),
         }
-        let value = compute(
-            setup.slots(),
-            code.sites.as_slice(),
-            pointers,
-            self.top.registers(),
-            work,
-        );
-        let is_quiet = value.is_ok();
-        self.compute(into, value);
-        is_quiet
     }
 
+    #[inline(always)]
     fn act_alone(&mut self, code: &Code, setup: &Setup, pointers: &[bool], act: &Act) -> bool
         requires instr { self.old.thread.top.instr + 1 < 2 ^ 64 }
         requires pointers { pointers.now ≡ pointers_of code.now self.old.thread.top }
@@ -74,6 +104,7 @@ impl ThreadState {
     }
 
     // One quiet step of a running thread that needs no room. False, and nothing is made, where no such step comes next.
+    #[inline(always)]
     fn step_alone(&mut self, code: &Code, setup: &Setup, pointers: &[bool], instr: &Instr) -> bool
         requires running { self.old.thread.phase ≡ phase.Running }
         requires stands { instr_at code.now self.old.thread.top ≡ Some instr.now }

@@ -34,6 +34,7 @@ pub(crate) fn limited(at_limit: bool, due: Due) -> Due
     }
 }
 
+#[inline(always)]
 pub(crate) fn first_owed(stripes: &[Stripe]) -> Option<Stripe>
     ensures { result ≡ first_owed_of stripes.now }
 {

@@ -48,6 +48,15 @@ impl<'a> Model for Flow<'a> {
 }
 
 impl<'a> Flow<'a> {
+    // What comes next, of any kind.
+    #[tactic(auto, unfolding(flow_code::specs::Next::action_at))]
+    #[inline(never)]
+    fn due_action(&self) -> Action
+        ensures { result ≡ action_at self.now.code self.now.setup self.now.number self.now.kept.thread }
+    {
+        action_of(self.state.due(self.code, self.setup, self.thread))
+    }
+
     /// What comes next: a quiet step, or what the thread does to the words.
     #[tactic(auto, unfolding(flow_code::specs::Next::action_at))]
     #[inline(always)]
@@ -56,11 +65,12 @@ impl<'a> Flow<'a> {
     {
         match self.state.next_event(self.code, self.setup) {
             Some(next) => next,
-            None => action_of(self.state.due(self.code, self.setup, self.thread)),
+            None => self.due_action(),
         }
     }
 
     /// One step: a quiet one, or what comes next, with its answer.
+    #[inline(never)]
     pub fn take_answer(&mut self, answer: i64)
         requires { is_ready self.old.code self.old.kept ≡ true }
         ensures code { self.new.code ≡ self.old.code }
@@ -76,6 +86,7 @@ impl<'a> Flow<'a> {
 
     // What is due where this comes next.
     #[tactic(auto, using(crate::proofs::FlowFacts::known_load, crate::proofs::FlowFacts::known_store, crate::proofs::FlowFacts::known_mark))]
+    #[inline(always)]
     fn due_of(&self, next: Action) -> Due
         requires { next ≡ action_at self.now.code self.now.setup self.now.number self.now.kept.thread }
         ensures { result ≡ due_of self.now.code self.now.setup self.now.number self.now.kept.thread }
@@ -202,6 +213,7 @@ impl<'a> Flow<'a> {
     }
 
     // Quiet steps that need no room.
+    #[inline(always)]
     fn pass_alone(&mut self)
         ensures code { self.new.code ≡ self.old.code }
         ensures setup { self.new.setup ≡ self.old.setup }

@@ -24,6 +24,7 @@ impl Model for Frame {
     ghost view = { λ f. record { function = f.function; instr = f.instr; made = f.made; kept = f.kept; registers = f.registers.items } };
 }
 
+#[inline(always)]
 fn write(registers: &mut Vec<u64>, r: u32, value: u64)
     ensures { registers.new.items ≡ slice_set registers.old.items r value }
 {
@@ -33,6 +34,7 @@ fn write(registers: &mut Vec<u64>, r: u32, value: u64)
 }
 
 impl Frame {
+    #[inline(always)]
     pub(crate) fn set_register(&mut self, r: u32, value: u64)
         ensures { self.new ≡ with_register self.old r value }
     {
@@ -49,6 +51,7 @@ impl Frame {
     }
 
     // Goes on after the instruction.
+    #[inline(always)]
     pub(crate) fn pass(&mut self)
         requires { self.old.instr + 1 < 2 ^ 64 }
         ensures { self.new ≡ past_of self.old }
@@ -58,6 +61,7 @@ impl Frame {
         self.kept = 0;
     }
 
+    #[inline(always)]
     pub(crate) fn jump(&mut self, to: u32)
         ensures { self.new ≡ jumped self.old to }
     {
@@ -75,12 +79,14 @@ impl Frame {
         self.kept = kept;
     }
 
+    #[inline(always)]
     pub(crate) fn place(&self) -> (u32, usize)
         ensures { (result.0 ≡ self.now.function) × (result.1 ≡ self.now.instr) }
     {
         (self.function, self.instr)
     }
 
+    #[inline(always)]
     pub(crate) fn registers(&self) -> &[u64]
         ensures { result.now ≡ self.now.registers }
     {

@@ -225,6 +225,7 @@ impl ThreadState {
         self.parting_due(call, due)
     }
 
+    #[inline(always)]
     fn access_due(&self, code: &Code, through: u32, other: u32) -> Result<u32, Trap>
         ensures { result ≡ resolved_of code.now.sites (register_of self.now.thread.top.registers through) (access_kind_of (is_pointer_of (pointers_of code.now self.now.thread.top) other)) }
     {
@@ -332,6 +333,7 @@ impl ThreadState {
     }
 
     // Whether no limit is reached and no stripe owed.
+    #[inline(always)]
     fn is_free(&self, setup: &Setup) -> bool
         ensures limit { result ≡ true → nat_le setup.now.limit self.now.thread.count ≡ false }
         ensures entries { result ≡ true → nat_le most_entries self.now.thread.entries ≡ false }
@@ -365,6 +367,7 @@ impl ThreadState {
     }
 
     // The instruction of the thread's frame.
+    #[inline(always)]
     pub(crate) fn instr_here<'b>(&self, code: &'b Code) -> Option<&'b Instr>
         ensures value { option_copied result ≡ instr_of_frame code.now self.now.thread.top }
         ensures within { IfSome result (λ _. self.now.thread.top.instr + 1 < 2 ^ 64) }
@@ -374,6 +377,7 @@ impl ThreadState {
     }
 
     // Whether an access or a mark of a running thread comes next, which needs no registers and no room for a region's stripes.
+    #[inline(always)]
     pub(crate) fn needs_none(&self, code: &Code) -> bool
         ensures registers { result ≡ true → needs code.now self.now.thread ≡ 0 }
         ensures pairs { result ≡ true → needs_pairs code.now self.now.thread ≡ 0 }
@@ -405,6 +409,7 @@ impl ThreadState {
     }
 
     // What is due: by the code, then by the limit of events, by owed stripes, and by the limit of entries.
+    #[inline(never)]
     pub(crate) fn due(&self, code: &Code, setup: &Setup, thread: u8) -> Due
         requires globals { length code.now.globals ≤ 2 ^ 20 }
         requires thread { thread < setup.now.slots }

@@ -9,12 +9,14 @@ ghost use Rattle.flow_code.specs.Holding.{region_in};
 use flow_code::{Code, Function, Instr, Region};
 use sync_objects::Setup;
 
+#[inline(always)]
 pub(crate) fn function_at(code: &Code, function: u32) -> Option<&Function>
     ensures { option_copied result ≡ slice_get code.now.functions function }
 {
     code.functions.get(function as usize)
 }
 
+#[inline(always)]
 pub(crate) fn instr_at(code: &Code, function: u32, instr: usize) -> Option<&Instr>
     ensures value { option_copied result ≡ instr_in (slice_get code.now.functions function) instr }
     ensures within { IfSome result (λ _. instr + 1 < 2 ^ 64) }
@@ -42,6 +44,7 @@ pub(crate) fn region_at(code: &Code, function: u32, region: u32) -> Option<&Regi
 }
 
 // The instructions of a function.
+#[inline(always)]
 pub(crate) fn instrs_at(code: &Code, function: u32) -> &[Instr]
     ensures { result.now ≡ instrs_in (slice_get code.now.functions function) }
 {
@@ -60,6 +63,7 @@ pub(crate) fn registers_at(code: &Code, function: u32) -> u32
     }
 }
 
+#[inline(always)]
 pub(crate) fn pointers_at(code: &Code, function: u32) -> &[bool]
     ensures { result.now ≡ pointers_in (slice_get code.now.functions function) }
 {

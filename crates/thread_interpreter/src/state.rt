@@ -153,24 +153,42 @@ impl ThreadState {
     }
 
     // Whether there is room for what the next step needs of registers and of a region's stripes.
-    fn has_room(&self, code: &Code) -> bool
+    #[inline(never)]
+    fn has_needed(&self, code: &Code) -> bool
         ensures registers { result ≡ true → needs code.now self.now.thread ≤ self.now.registers }
         ensures pairs { result ≡ true → needs_pairs code.now self.now.thread ≤ self.now.pairs }
     {
-        if self.needs_none(code) {
-            return true;
-        }
         self.needed(code) as usize <= self.spare.capacity()
             && self.needed_pairs(code) <= self.pairs.capacity()
     }
 
+    // The same, where most steps need none.
+    #[inline(always)]
+    fn has_room(&self, code: &Code) -> bool
+        ensures registers { result ≡ true → needs code.now self.now.thread ≤ self.now.registers }
+        ensures pairs { result ≡ true → needs_pairs code.now self.now.thread ≤ self.now.pairs }
+    {
+        self.needs_none(code) || self.has_needed(code)
+    }
+
     // Whether there is room for one more frame, one more stripe and one more open region.
+    #[inline(always)]
     fn has_places(&self) -> bool
         ensures { result ≡ true → (self.now.has_place ≡ true) × (self.now.has_stripe ≡ true) × (self.now.has_region ≡ true) }
     {
         self.below.len() < self.below.capacity()
             && self.stripes.len() < self.stripes.capacity()
             && self.regions.len() < self.regions.capacity()
+    }
+
+    // Makes room for one more step, whatever it is.
+    #[inline(never)]
+    fn reserve_all(&mut self, code: &Code) -> Result<(), AllocError>
+        ensures same { self.new.thread ≡ self.old.thread }
+        ensures ready { OnOk result (is_ready code.now self.new ≡ true) }
+    {
+        self.reserve_frame(code)?;
+        self.reserve_stripes(code)
     }
 
     /// Makes room for one more step.
@@ -182,8 +200,7 @@ impl ThreadState {
         if self.has_places() && self.has_room(code) {
             return Ok(());
         }
-        self.reserve_frame(code)?;
-        self.reserve_stripes(code)
+        self.reserve_all(code)
     }
 
     // The bytes that the call at which the thread stands prints.
@@ -219,6 +236,7 @@ impl ThreadState {
     }
 
     // Puts a result into a register, and goes on.
+    #[inline(always)]
     pub(crate) fn compute(&mut self, into: u32, value: Result<u64, Trap>)
         requires { self.old.thread.top.instr + 1 < 2 ^ 64 }
         ensures { self.new.thread ≡ computed self.old.thread into value }
@@ -230,6 +248,7 @@ impl ThreadState {
     }
 
     // Goes on after the instruction.
+    #[inline(always)]
     pub(crate) fn pass(&mut self)
         requires { self.old.thread.top.instr + 1 < 2 ^ 64 }
         ensures { self.new.thread ≡ in_frame self.old.thread (past_of self.old.thread.top) }

@@ -127,6 +127,7 @@ impl ThreadState {
         self.allocate(into, site, cells as u32);
     }
 
+    #[inline(always)]
     fn take_load(&mut self, into: u32, answer: i64)
         requires { self.old.thread.top.instr + 1 < 2 ^ 64 }
         ensures { self.new.thread ≡ in_frame self.old.thread (past_of (with_register self.old.thread.top into (word_of answer))) }
@@ -135,6 +136,7 @@ impl ThreadState {
         self.top.pass();
     }
 
+    #[inline(always)]
     pub(crate) fn take_branch(&mut self, on: u32, then_at: u32, else_at: u32)
         ensures { self.new.thread ≡ in_frame self.old.thread (jumped self.old.thread.top (branch_to_of (register_of self.old.thread.top.registers on) then_at else_at)) }
     {
@@ -218,6 +220,7 @@ impl ThreadState {
     }
 
     // What becomes of the thread by what is due by its code alone.
+    #[inline(never)]
     fn go(&mut self, alloc: Global, code: &Code, setup: &Setup, thread: u8, answer: i64)
         requires globals { length code.now.globals ≤ 2 ^ 20 }
         requires thread { thread < setup.now.slots }
@@ -260,6 +263,7 @@ impl ThreadState {
     }
 
     // Goes on from an access or a mark of a running thread. False, and nothing is made, elsewhere.
+    #[inline(always)]
     fn go_alone(&mut self, code: &Code, answer: i64) -> bool
         ensures thread { result ≡ true → (s : SetupView) (t : ℕ) → self.new.thread ≡ phase_after code.now s t self.old.thread self.old.thread.phase answer }
         ensures same { result ≡ false → self.new ≡ self.old }
@@ -284,6 +288,7 @@ impl ThreadState {
     }
 
     // What becomes of the thread by an access or a mark; most of them are a running thread's.
+    #[inline(always)]
     fn go_event(&mut self, alloc: Global, code: &Code, setup: &Setup, thread: u8, answer: i64)
         requires globals { length code.now.globals ≤ 2 ^ 20 }
         requires thread { thread < setup.now.slots }
@@ -320,6 +325,7 @@ impl ThreadState {
     }
 
     // Takes an owed stripe again.
+    #[inline(never)]
     fn take_stripe(&mut self, op: Op)
         requires count { (counted op self.old.thread).count < 2 ^ 32 }
         requires entries { (counted op self.old.thread).entries < 2 ^ 32 }
@@ -330,6 +336,7 @@ impl ThreadState {
     }
 
     // The thread traps, at the line at which it stands.
+    #[inline(never)]
     fn take_trap(&mut self, code: &Code, kind: Trap)
         requires { self.old.thread.count + 1 < 2 ^ 32 }
         ensures { self.new.thread ≡ counted op.TrapHere (record self.old.thread { phase = phase.Trapped kind (line_of_phase code.now self.old.thread.phase self.old.thread.top) }) }

@@ -237,6 +237,32 @@ impl<'a> ThreadRun<'a> {
         Ok(())
     }
 
+    // Whether the three lists have room for one item each.
+    #[inline(always)]
+    fn has_places(&self) -> bool
+        ensures { result ≡ true → (self.now.has_entry ≡ true) × (self.now.has_piece ≡ true) × (self.now.has_read ≡ true) }
+    {
+        self.noted.len() < self.noted.capacity()
+            && self.pieces.len() < self.pieces.capacity()
+            && self.reads.len() < self.reads.capacity()
+    }
+
+    // Makes room for one item in each of the three lists.
+    #[inline(never)]
+    fn reserve_lists(&mut self) -> Result<(), AllocError>
+        ensures flow { self.new.flow ≡ self.old.flow }
+        ensures same { IsSameRun self.old self.new }
+        ensures told { told_of self.new ≡ told_of self.old }
+        ensures reads { self.new.reads ≡ self.old.reads }
+        ensures entry { OnOk result (self.new.has_entry ≡ true) }
+        ensures piece { OnOk result (self.new.has_piece ≡ true) }
+        ensures read { OnOk result (self.new.has_read ≡ true) }
+    {
+        self.noted.reserve(1)?;
+        self.pieces.reserve(1)?;
+        self.reads.reserve(1)
+    }
+
     // Makes room for what the interpreter needs, an entry, a piece and an access.
     #[inline(always)]
     fn make_room(&mut self) -> Result<(), AllocError>
@@ -249,9 +275,10 @@ impl<'a> ThreadRun<'a> {
         ensures read { OnOk result (self.new.has_read ≡ true) }
     {
         self.flow.reserve()?;
-        self.noted.reserve(1)?;
-        self.pieces.reserve(1)?;
-        self.reads.reserve(1)
+        if self.has_places() {
+            return Ok(());
+        }
+        self.reserve_lists()
     }
 
     /// Makes room for one more step: for what the interpreter needs, an entry, a piece and an access. A quiet step is one too.
