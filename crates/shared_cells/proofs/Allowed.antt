@@ -27,8 +27,8 @@ use Rattle.rr_base.proofs.Lists.{slice_get-set_other, slice_get-set_within}
 use Rattle.shared_cells.specs.Views.{Note, SeatView, with_thread, looked, missed, departing, lowered}
 use Rattle.shared_cells.specs.Threads.{own, pending, after_marks, AreMarks, IsNext, IsDueIn, after_load, after_store, after_operation}
 use Rattle.shared_cells.specs.Words.{objects_end, departure_place, HasGoneOn, HaveGoneOn}
-use Rattle.shared_cells.specs.Rule.{Knowledge, IsPut, Shows, Holds}
-use Rattle.shared_cells.specs.Plays.{Mine, LoadsCell, StoresCell, exchanging, Looks, Departs, Lowers, Puts, Stays}
+use Rattle.shared_cells.specs.Rule.{Knowledge, IsPut, Shows, HoldsDense}
+use Rattle.shared_cells.specs.Plays.{Mine, LoadsAt, StoresAt, ExchangesAt, LooksAt, DepartsAt, Lowers, PutsAt, Stays}
 use Rattle.shared_cells.specs.declared.asked.Asked.{Asked}
 use Rattle.shared_cells.proofs.ThreadSteps.{GoesTo, goes_nowhere, goes_marks, goes_load, goes_store, goes_operation}
 use Rattle.shared_cells.proofs.Keeping.{gone_nowhere, shows_kept}
@@ -98,7 +98,7 @@ module _ (v : SeatView) (xs : List (ℕ × Asked)) (slots id : ℕ) (one : lengt
     stays p v1 k = subst (λ ws. Shows v.code v.setup ws (slice_set views id v1)) (sym (set-get_or words p 0)) k
 
   module _ (runnable : IsRunnable v.code) (limits : IsWithinLimits v.setup) where
-    pub load_allowed : (c n : ℕ) → IsNext v n (action.Load c) → c < cells_of v.code v.setup → Allows (Holds (known_of v)) slots id me c (λ w. w) (λ found after. LoadsCell (step slots c 0 0 none) me found after)
+    pub load_allowed : (c n : ℕ) → IsNext v n (action.Load c) → c < cells_of v.code v.setup → Allows (HoldsDense (known_of v)) slots id me c (λ w. w) (λ found after. LoadsAt c me found after)
     load_allowed c n comes lt = λ s h len at fits.
         let code = v.code in
         let setup = v.setup in
@@ -122,7 +122,7 @@ module _ (v : SeatView) (xs : List (ℕ × Asked)) (slots id : ℕ) (one : lengt
           },
         )
 
-    pub store_allowed : (c w n : ℕ) → IsNext v n (action.Store c w) → c < cells_of v.code v.setup → Allows (Holds (known_of v)) slots id me c (λ _. w) (λ _ after. StoresCell (step slots c w 0 none) me w after)
+    pub store_allowed : (c w n : ℕ) → IsNext v n (action.Store c w) → c < cells_of v.code v.setup → Allows (HoldsDense (known_of v)) slots id me c (λ _. w) (λ _ after. StoresAt w c me w after)
     store_allowed c w n comes lt = λ s h len at fits.
         let code = v.code in
         let setup = v.setup in
@@ -151,10 +151,10 @@ module _ (v : SeatView) (xs : List (ℕ × Asked)) (slots id : ℕ) (one : lengt
           let up = number_rises it.op v.from seen_word new it.answer moves in
           record { number = omega (arith, up); same = λ e. absurd (omega (arith, up, e)) }
 
-      pub exchange_allowed : Allows (Holds (known_of v)) slots id me place (λ w. either (eqb w seen_word) new w) (λ found after. exchanging (step slots place seen_word new (some it)) me found after)
+      pub exchange_allowed : Allows (HoldsDense (known_of v)) slots id me place (λ w. either (eqb w seen_word) new w) (λ found after. ExchangesAt it seen_word place me found after)
       exchange_allowed = λ s h len at fits.
           exchanged (slice_index s.words place) seen_word new
-          (λ x. (w : SeatView) × (b : Act Asked) × Valid s.homes xs b × Holds (known_of v) (stepped s place x id xs w b) × exchanging (step slots place seen_word new (some it)) me (slice_index s.words place) (w, carried_after xs b))
+          (λ x. (w : SeatView) × (b : Act Asked) × Valid s.homes xs b × HoldsDense (known_of v) (stepped s place x id xs w b) × ExchangesAt it seen_word place me (slice_index s.words place) (w, carried_after xs b))
           (λ hit.
           let code = v.code in
           let setup = v.setup in
@@ -204,7 +204,7 @@ module _ (v : SeatView) (xs : List (ℕ × Asked)) (slots id : ℕ) (one : lengt
           ))
 
     -- a look at a word of the table
-    pub look_allowed : (p : ℕ) → Allows (Holds (known_of v)) slots id me p (λ w. w) (λ found after. Looks (step slots p 0 0 none) me found after)
+    pub look_allowed : (p : ℕ) → Allows (HoldsDense (known_of v)) slots id me p (λ w. w) (λ found after. LooksAt p me found after)
     look_allowed p = λ s h len at fits.
         let code = v.code in
         let setup = v.setup in
@@ -226,7 +226,7 @@ module _ (v : SeatView) (xs : List (ℕ × Asked)) (slots id : ℕ) (one : lengt
         )
 
     -- a look at the departure word
-    pub depart_allowed : Allows (Holds (known_of v)) slots id me (departure_place v.code v.setup) (λ w. w) (λ found after. Departs (step slots (departure_place v.code v.setup) 0 0 none) me found after)
+    pub depart_allowed : Allows (HoldsDense (known_of v)) slots id me (departure_place v.code v.setup) (λ w. w) (λ found after. DepartsAt (departure_place v.code v.setup) me found after)
     depart_allowed = λ s h len at fits.
         let code = v.code in
         let setup = v.setup in
@@ -262,7 +262,7 @@ module _ (v : SeatView) (xs : List (ℕ × Asked)) (slots id : ℕ) (one : lengt
           (λ d e. put_kept views id v v1 d at (λ y c. subst (λ ps. Contains ps y) (sym positions_are) c) (h.departed d (same d e))))
 
       -- one that tells nothing
-      pub stay_allowed : Allows (Holds (known_of v)) slots id me p (λ _. x) (λ _ after. Stays (step slots p x 0 none) me x after)
+      pub stay_allowed : Allows (HoldsDense (known_of v)) slots id me p (λ _. x) (λ _ after. Stays (step slots p x 0 none) me x after)
       stay_allowed = λ s h len at fits.
           (v, keeps, tt, set_beside v refl refl refl refl refl refl (λ k n e low. (k, e)) s.words s.views h at, record { slots = refl; view = refl })
 
@@ -272,12 +272,12 @@ module _ (v : SeatView) (xs : List (ℕ × Asked)) (slots id : ℕ) (one : lengt
       older_note (suc k) n e low = (k, e)
 
       -- one that the seat takes note of
-      pub put_allowed : Allows (Holds (known_of v)) slots id me p (λ _. x) (λ _ after. Puts (step slots p x 0 none) me x after)
+      pub put_allowed : Allows (HoldsDense (known_of v)) slots id me p (λ _. x) (λ _ after. PutsAt x p me x after)
       put_allowed = λ s h len at fits.
           (looked v p x, keeps, tt, set_beside (looked v p x) refl refl refl refl refl refl older_note s.words s.views h at, record { slots = refl; view = refl })
 
     -- the departure word is lowered to a position, if that is less
-    pub lower_allowed : (position : ℕ) → Allows (Holds (known_of v)) slots id me (departure_place v.code v.setup) (λ w. min w position) (λ found after. Lowers (step slots (departure_place v.code v.setup) position 0 none) me found after)
+    pub lower_allowed : (position : ℕ) → Allows (HoldsDense (known_of v)) slots id me (departure_place v.code v.setup) (λ w. min w position) (λ found after. Lowers (step slots (departure_place v.code v.setup) position 0 none) me found after)
     lower_allowed position = λ s h len at fits.
         let code = v.code in
         let setup = v.setup in

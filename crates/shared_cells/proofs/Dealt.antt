@@ -6,18 +6,18 @@ use Rattle.std.proofs.lemmas.Option.{same_Some}
 use mathlib.Core.Option.{some, some-injective, some-ne-none}
 use lib.ListN.{get_elem?}
 use Rattle.atomic_table.specs.Seated.{TableId}
-use Rattle.atomic_table.specs.Table.{Splits}
+use Rattle.atomic_table.specs.Table.{Splits, opening}
 use Rattle.atomic_table.specs.declared.shared.Seat.{Seat as TableSeat}
 use Rattle.atomic_table.proofs.Lists.{at_set, at_longer}
 use Rattle.sync_objects.specs.Setup.{SetupView}
 use Rattle.flow_code.specs.declared.code.Code.{Code}
 use Rattle.core_run.specs.Machine.{Told, start_told, start_threads_from, start_state}
-use Rattle.core_run.specs.Words.{start_words}
+use Rattle.core_run.specs.Words.{cells_of, start_words}
 use Rattle.rr_base.proofs.Lists.{slice_get-append_at, slice_get_inside}
 use Rattle.core_run.proofs.Reached.{start_length}
 use Rattle.core_run.proofs.ThreadRanges.{start_thread_is}
 use Rattle.shared_cells.specs.Views.{SeatView, never}
-use Rattle.shared_cells.specs.Words.{departure_place, first_words}
+use Rattle.shared_cells.specs.Words.{departure_place, first_words, lone_cells, IsSpread}
 use Rattle.shared_cells.specs.Rule.{Knowledge, Carries, AreApart, IsPut, IsSeen, Shows, Holds, everyone, first_part, other_part}
 use Rattle.shared_cells.specs.Plays.{Mine, IsReached}
 use Rattle.shared_cells.specs.Seats.{view_of, IsSeatOf, start_view}
@@ -184,8 +184,8 @@ module _ (key : Knowledge) where
     departed = λ d e. inl (sym (same_Some never d (sym departure_first ∙ e)));
   }
 
-  pub starts_with : (ws : List ℕ) → ws ≡ first_words code s → Shows code s ws (everyone key ∷ [])
-  starts_with ws e = subst (λ z. Shows code s z (everyone key ∷ [])) (sym e) starts
+  pub starts_with : (words table : List ℕ) → words ≡ first_words code s → IsSpread (cells_of code s) (lone_cells code s) words table → Holds key (opening {S = Asked} table [] (everyone key))
+  starts_with words table e spread = (words, spread, subst (λ z. Shows code s z (everyone key ∷ [])) (sym e) starts)
 
   -- ---- dealing
 
@@ -212,7 +212,7 @@ module _ (key : Knowledge) where
   pub split_allowed : (id : TableId) (k : ℕ) (last : TableSeat Asked SeatView) (seats : List Seat) → k + 1 < s.slots → IsDealt id k last seats → Splits {S = Asked} (Holds key) last.id last.me.0 (first_part last.me.0) (other_part last.me.0)
   split_allowed id k last seats lt d = λ st h at.
       let view = ap (λ (m : Mine). m.0) d.me ∙ more_left k lt in
-      shows_split code s st.words st.views last.id last.me.0 (start_told code s k) (start_told code s (k + 1)) (start_threads_from code s (k + 1 + 1) (s.slots - k - 2)) h at (ap (λ (v : SeatView). v.carried) view)
+      (h.0, h.1, shows_split code s h.0 st.views last.id last.me.0 (start_told code s k) (start_told code s (k + 1)) (start_threads_from code s (k + 1 + 1) (s.slots - k - 2)) h.2 at (ap (λ (v : SeatView). v.carried) view))
 
   -- a seat for thread k
   started : (id : TableId) (k : ℕ) (seat : Seat) → k < s.slots → seat.seat.table_id ≡ id → seat.seat.me ≡ (start_view code s k, []) → seat.thread ≡ k → seat.marks ≡ 0 → IsStarted id k seat

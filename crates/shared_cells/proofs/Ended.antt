@@ -1,9 +1,9 @@
 -- What the words show when all seats are given back.
-use Rattle.std.proofs.Common.{◌≡◌, ◌≢◌, ℕ, zero, suc, ◌+◌, ◌*◌, ◌<◌, ◌≤◌, ◌⊎◌, inl, inr, List, [], ◌∷◌, ◌++◌, length, take, Some, sym, ap, subst, ◌∙◌, ⊎_elim, arith}
-use Rattle.std.specs.Prelude.{slice_get, Contains}
+use Rattle.std.proofs.Common.{◌≡◌, ◌≢◌, ℕ, zero, suc, ◌+◌, ◌*◌, ◌<◌, ◌≤◌, ◌⊎◌, inl, inr, List, [], ◌∷◌, ◌++◌, length, take, Some, refl, sym, ap, subst, ◌∙◌, ⊎_elim, arith}
+use Rattle.std.specs.Prelude.{slice_get, slice_index, Contains}
 use Rattle.std.proofs.lemmas.Bool.{cases_eq, cases_lt}
 use Rattle.std.proofs.lemmas.List.{take-append-le, take_all}
-use Rattle.std.proofs.lemmas.Option.{slice_get_within}
+use Rattle.std.proofs.lemmas.Option.{slice_get_within, slice_get-get_or, get_or_from_slice_get, same_Some}
 use mathlib.Core.Option.{some, some-injective, some-ne-none}
 use lib.ListN.{get_elem?}
 use Rattle.atomic_table.specs.Seated.{TableId}
@@ -16,7 +16,8 @@ use Rattle.core_run.specs.Machine.{Told}
 use Rattle.core_run.proofs.Reached.{kept}
 use Rattle.shared_cells.specs.Views.{SeatView, never}
 use Rattle.shared_cells.specs.Threads.{own}
-use Rattle.shared_cells.specs.Words.{objects_end, departure_place}
+use Rattle.core_run.specs.Words.{cells_of}
+use Rattle.shared_cells.specs.Words.{objects_end, departure_place, lone_cells, spread, spot_of, IsSpread}
 use Rattle.shared_cells.specs.Rule.{Knowledge, IsPut, IsSeen, Shows, Holds}
 use Rattle.shared_cells.specs.Seats.{view_of, AreSeats}
 use Rattle.shared_cells.specs.Closing.{Gathers, Closes}
@@ -116,13 +117,59 @@ module _ (key : Knowledge) (words xs : List ℕ) (id : ℕ) (v : SeatView) (view
           put = put d (h.departed d there);
         }
 
--- what was the departure word when the table was closed
-pub departure_low : (key : Knowledge) (ws : List ℕ) (xs : List Asked) (id : ℕ) (v : SeatView) (d : ℕ) → Final {S = Asked} (Seen (Holds key) id v) ws xs → get_elem? ws (departure_place key.code key.setup) ≡ some d → d ≤ never
-departure_low key ws xs id v d final at =
-    let same : final.0.words ≡ ws = final.2 in
-    final.1.0.low d (ap (λ z. slice_get z (departure_place key.code key.setup)) same ∙ at_place ws (departure_place key.code key.setup) d at)
+-- the words that a table has at the spots of the first places, so many
+abbrev pub gathered : (cells lone : ℕ) → List ℕ → ℕ → List ℕ
+gathered cells lone table zero = []
+gathered cells lone table (suc k) = gathered cells lone table k ++ slice_index table (spread cells lone k) ∷ []
 
-pub closes : (key : Knowledge) (id : TableId) (ws : List ℕ) (xs : List Asked) (seat : ℕ) (v : SeatView) (seats : List Seat) (words : List ℕ) (d : ℕ) → IsRunnable key.code → IsWithinLimits key.setup → AreSeats (record { code = key.code; setup = key.setup; table = id }) seats → Gathers seats 0 v → Final {S = Asked} (Seen (Holds key) seat v) ws xs → words ≡ take (objects_end key.code key.setup) ws → get_elem? ws (departure_place key.code key.setup) ≡ some d → Closes key.code key.setup seats words d
-closes key id ws xs seat v seats words d runnable limits are g final words_are at =
-    let same : final.0.words ≡ ws = final.2 in
-    closes_from key final.0.words [] seat v final.0.views final.1.0 final.1.1 runnable limits seats g are.count words d (words_are ∙ ap (take (objects_end key.code key.setup)) (sym same)) (ap (λ z. slice_get z (departure_place key.code key.setup)) same ∙ at_place ws (departure_place key.code key.setup) d at)
+pub gathered_one : (cells lone : ℕ) (table : List ℕ) (k x : ℕ) → get_elem? table (spread cells lone k) ≡ some x → gathered cells lone table (k + 1) ≡ gathered cells lone table k ++ x ∷ []
+gathered_one cells lone table k x e =
+    let n : k + 1 ≡ suc k = omega arith in
+    ap (gathered cells lone table) n ∙ ap (λ z. gathered cells lone table k ++ z ∷ []) (get_or_from_slice_get table (spread cells lone k) x 0 (at_place table (spread cells lone k) x e))
+
+-- they are the first words
+gathered_is : (cells lone : ℕ) (words table : List ℕ) → IsSpread cells lone words table → (k : ℕ) → k ≤ length words → gathered cells lone table k ≡ take k words
+gathered_is cells lone words table h zero le = refl
+gathered_is cells lone words table h (suc k) le =
+    let there = slice_get_inside words k (omega (arith, le)) in
+    let n : k + 1 ≡ suc k = omega arith in
+    ap (λ xs. xs ++ slice_index table (spread cells lone k) ∷ []) (gathered_is cells lone words table h k (omega (arith, le)))
+    ∙ ap (λ x. take k words ++ x ∷ []) (h.at k (omega (arith, le)) ∙ get_or_from_slice_get words k there.0 0 there.1)
+    ∙ sym (take_one words k there.0 (in_library words k there.0 there.1))
+    ∙ ap (λ m. take m words) n
+  where
+    in_library : (xs : List ℕ) (i x : ℕ) → slice_get xs i ≡ Some x → get_elem? xs i ≡ some x
+    in_library [] i x e = cc
+    in_library (y ∷ ys) zero x e = ap some (same_Some y x e)
+    in_library (y ∷ ys) (suc i) x e = in_library ys i x e
+
+module _ (key : Knowledge) (ws : List ℕ) (xs : List Asked) (id : ℕ) (v : SeatView) (d : ℕ) (final : Final {S = Asked} (Seen (Holds key) id v) ws xs) (at : get_elem? ws (spot_of key.code key.setup (departure_place key.code key.setup)) ≡ some d) where
+  abbrev words_then : List ℕ
+  words_then = final.1.0.0
+
+  spread_then : IsSpread (cells_of key.code key.setup) (lone_cells key.code key.setup) words_then ws
+  spread_then = subst (IsSpread (cells_of key.code key.setup) (lone_cells key.code key.setup) words_then) final.2 final.1.0.1
+
+  shows_then : Shows key.code key.setup words_then final.0.views
+  shows_then = final.1.0.2
+
+  long : length words_then ≡ objects_end key.code key.setup + 8 * length key.code.locks + 2
+  long = shows_then.size ∙ length-first_words key.code key.setup
+
+  departure_then : slice_get words_then (departure_place key.code key.setup) ≡ Some d
+  departure_then =
+      let place = departure_place key.code key.setup in
+      let spot = spot_of key.code key.setup place in
+      let inside : place < length words_then = (let n = long in omega (arith, n)) in
+      slice_get-get_or words_then place 0 inside ∙ ap Some (sym (spread_then.at place inside) ∙ get_or_from_slice_get ws spot d 0 (at_place ws spot d at))
+
+  -- what was the departure word when the table was closed
+  pub departure_low : d ≤ never
+  departure_low = shows_then.low d departure_then
+
+  pub closes : (id : TableId) (seats : List Seat) (words : List ℕ) → IsRunnable key.code → IsWithinLimits key.setup → AreSeats (record { code = key.code; setup = key.setup; table = id }) seats → Gathers seats 0 v → words ≡ gathered (cells_of key.code key.setup) (lone_cells key.code key.setup) ws (objects_end key.code key.setup) → Closes key.code key.setup seats words d
+  closes table seats words runnable limits are g words_are =
+      let n = long in
+      closes_from key words_then [] id v final.0.views shows_then final.1.1 runnable limits seats g are.count words d
+      (words_are ∙ gathered_is (cells_of key.code key.setup) (lone_cells key.code key.setup) words_then ws spread_then (objects_end key.code key.setup) (omega (arith, n)))
+      departure_then

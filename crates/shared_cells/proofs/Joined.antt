@@ -173,7 +173,7 @@ module _ (code : Code) (s : SetupView) (words : List ℕ) (views : List SeatView
   }
 
 pub join_allowed : (key : Knowledge) (id other : ℕ) (v w : SeatView) → 0 < length v.carried → 0 < length w.carried → w.from ≡ v.from + length v.carried → Joins {S = Asked} (Holds key) id v other w (both v w) nobody
-join_allowed key id other v w some_v some_w next = λ st h at ne at_other. shows_joined key.code key.setup st.words st.views id other v w h at ne at_other some_v some_w next
+join_allowed key id other v w some_v some_w next = λ st h at ne at_other. (h.0, h.1, shows_joined key.code key.setup h.0 st.views id other v w h.2 at ne at_other some_v some_w next)
 
 -- ---- what the one view has
 

@@ -2,6 +2,7 @@ pub mod ThreadSteps
 pub mod Keeping
 pub mod Moves
 pub mod Allowed
+pub mod Spreading
 pub mod Calls
 pub mod Attempts
 pub mod Dealt

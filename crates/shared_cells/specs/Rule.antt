@@ -12,7 +12,7 @@ use Rattle.core_run.specs.Histories.{IsReachable}
 use Rattle.core_run.specs.Machine.{Told, start_state}
 use Rattle.run_theory.specs.Steps.{State}
 use Rattle.shared_cells.specs.Views.{SeatView, never}
-use Rattle.shared_cells.specs.Words.{objects_end, departure_place, memory_place, first_words, HaveGoneOn}
+use Rattle.shared_cells.specs.Words.{objects_end, departure_place, memory_place, first_words, lone_cells, spot_of, IsSpread, HaveGoneOn}
 use Rattle.shared_cells.specs.declared.asked.Asked.{Asked}
 
 -- what the table is told once: the code and the setup
@@ -27,15 +27,16 @@ pub record Board : Type 0 where
   pub table : TableId
 
 -- what holds of the cells' own numbers and of the table with its key
-pub record IsBoard (cells objects departure memory : ℕ) (key : Knowledge) (id : TableId) : Type 0 where
+pub record IsBoard (cells lone objects departure memory : ℕ) (key : Knowledge) (id : TableId) : Type 0 where
   pub runnable : IsRunnable key.code
   pub limits : IsWithinLimits key.setup
   pub cells_are : cells ≡ cells_of key.code key.setup
+  pub lone_are : lone ≡ lone_cells key.code key.setup
   pub objects_are : objects ≡ objects_end key.code key.setup
-  pub departure_is : departure ≡ departure_place key.code key.setup
-  pub departure_fits : departure < 2 ^ 64
-  pub memory_is : memory ≡ memory_place key.code key.setup
-  pub size : id.words ≡ length (first_words key.code key.setup)
+  pub departure_is : departure ≡ spot_of key.code key.setup (departure_place key.code key.setup)
+  pub memory_is : memory ≡ spot_of key.code key.setup (memory_place key.code key.setup)
+  pub memory_fits : memory < 2 ^ 64
+  pub size : id.words ≡ spot_of key.code key.setup (length (first_words key.code key.setup))
   pub no_slots : id.slots ≡ 0
 
 -- the state has the threads that the view carries
@@ -71,9 +72,13 @@ pub record Shows (code : Code) (s : SetupView) (words : List ℕ) (views : List 
   pub low : (d : ℕ) → slice_get words (departure_place code s) ≡ Some d → d ≤ never
   pub departed : (d : ℕ) → slice_get words (departure_place code s) ≡ Some d → IsPut views d
 
--- the rule itself, which each step on the table keeps
+-- so do the words of a table on which each stands at its place
+abbrev pub HoldsDense : Knowledge → table.State Asked SeatView → Type 0
+HoldsDense key s = Shows key.code key.setup s.words s.views
+
+-- the rule itself, which each step on the table keeps: on it each word stands at its spot
 abbrev pub Holds : Knowledge → table.State Asked SeatView → Type 0
-Holds key s = Shows key.code key.setup s.words s.views
+Holds key s = (words : List ℕ) × IsSpread (cells_of key.code key.setup) (lone_cells key.code key.setup) words s.words × Shows key.code key.setup words s.views
 
 -- two views become one: the threads of the second one are those after the first one's
 abbrev pub both : SeatView → SeatView → SeatView

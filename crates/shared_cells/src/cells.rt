@@ -5,7 +5,7 @@ ghost use Rattle.word_semantics.specs.declared.event.Action.TheVariants as actio
 ghost use Rattle.flow_code.specs.Settle.{IsRunnable};
 ghost use Rattle.core_run.specs.Words.{cells_of, has_object, place_of};
 ghost use Rattle.shared_cells.specs.Views.{looked, departing, lowered};
-ghost use Rattle.shared_cells.specs.Words.{objects_end, departure_place, memory_place, first_words};
+ghost use Rattle.shared_cells.specs.Words.{objects_end, departure_place, memory_place, first_words, lone_cells, spot_of};
 ghost use Rattle.shared_cells.specs.Seats.{is_asked};
 ghost use Rattle.shared_cells.specs.Threads.{loaded, stored};
 
@@ -14,6 +14,7 @@ use crate::attempt::Attempt;
 use crate::closed::Closed;
 use crate::dealing::{deal, join};
 use crate::seat::Seat;
+use crate::spots::{LONE_GLOBALS, spot_of, spread_words};
 use crate::steps::{Depart, Exchange, Load, Look, Lower, Part, Put, Rule, Stay, Store, Whole};
 use crate::view::{TableInput, View};
 use atomic_table::Table;
@@ -24,13 +25,16 @@ use std::marker::Model;
 use sync_objects::{ObjId, Op, Setup, advance, number_of};
 
 /// The words of a code's cells and objects under a setup, and beside them a want word for each stripe, the departure word and
-/// the memory word.
+/// the memory word. Words that different threads change often stand on lines of the cache of their own.
 #[derive(Drop)]
 pub struct Cells<'a> {
     code: &'a Code,
     setup: &'a Setup,
     cells: u32,
+    // So many of the first cells have fillers after them.
+    lone: usize,
     objects: usize,
+    // The spots of these two words on the table.
     departure: usize,
     memory: usize,
     table: Table<Asked, View, TableInput<'a>, Rule, Global>,
@@ -44,7 +48,7 @@ impl<'a> Model for Cells<'a> {
 
     ghost view = { λ c. record { code = c.table.shared.key.code; setup = c.table.shared.key.setup; table = c.table.shared.table_id } };
 
-    ghost invariant = { λ c. IsBoard c.cells c.objects c.departure c.memory c.table.shared.key c.table.shared.table_id × (c.code.now ≡ c.table.shared.key.code) × (c.setup.now ≡ c.table.shared.key.setup) };
+    ghost invariant = { λ c. IsBoard c.cells c.lone c.objects c.departure c.memory c.table.shared.key c.table.shared.table_id × (c.code.now ≡ c.table.shared.key.code) × (c.setup.now ≡ c.table.shared.key.setup) };
 }
 
 // The words at the start.
@@ -104,6 +108,12 @@ impl<'a> Cells<'a> {
     {
         let words = first_words(alloc, code, setup)?;
         let count = words.len();
+        let cells = 2 * u32::from(setup.slots())
+            + code.globals.len() as u32
+            + u32::from(setup.slots()) * setup.cells();
+        let all = cells as usize;
+        let lone = 2 * usize::from(setup.slots()) + code.globals.len().min(LONE_GLOBALS);
+        let words = spread_words(alloc, all, lone, words.as_slice())?;
         let known = TableInput { code, setup };
         let (table, first) = Table::<Asked, View, TableInput<'a>, Rule, Global>::of_words(
             alloc,
@@ -111,19 +121,36 @@ impl<'a> Cells<'a> {
             &known,
         )?;
         let seats = deal(alloc, &table.shared, first, setup.slots())?;
-        let cells = 2 * u32::from(setup.slots())
-            + code.globals.len() as u32
-            + u32::from(setup.slots()) * setup.cells();
         let made = Cells {
             code,
             setup,
             cells,
+            lone,
             objects: count - 2 - 8 * code.locks.len(),
-            departure: count - 2,
-            memory: count - 1,
+            departure: spot_of(all, lone, count - 2),
+            memory: spot_of(all, lone, count - 1),
             table,
         };
         Ok((made, seats))
+    }
+
+    // Where the table has the word of a place.
+    #[inline(always)]
+    fn spot(&self, place: usize) -> usize
+        requires { place < length (first_words self.now.code self.now.setup) }
+        ensures { result ≡ spot_of self.now.code self.now.setup place }
+    {
+        spot_of(self.cells as usize, self.lone, place)
+    }
+
+    // Where the table has the word of a cell.
+    #[inline(always)]
+    fn cell_spot(&self, cell: u32) -> usize
+        requires { cell < cells_of self.now.code self.now.setup }
+        ensures { result ≡ spot_of self.now.code self.now.setup cell }
+    {
+        let cell = cell as usize;
+        cell + 7 * cell.min(self.lone)
     }
 
     /// Loads a cell. The seat's thread has this load next.
@@ -139,7 +166,7 @@ impl<'a> Cells<'a> {
         seat.marks = 0;
         self.table
             .shared
-            .load::<Load>(&mut seat.seat, cell as usize)
+            .load::<Load>(&mut seat.seat, self.cell_spot(cell))
     }
 
     /// Stores a word into a cell. The seat's thread has this store next.
@@ -155,7 +182,7 @@ impl<'a> Cells<'a> {
         seat.marks = 0;
         self.table
             .shared
-            .store::<Store>(&mut seat.seat, cell as usize, value);
+            .store::<Store>(&mut seat.seat, self.cell_spot(cell), value);
     }
 
     /// Attempts an operation that the seat's thread may make as far as it goes: its own next one, or a revoke, a stop or a close
@@ -180,7 +207,7 @@ impl<'a> Cells<'a> {
         ensures seat { IsSeatOf self.now seat.new }
         ensures is { AttemptIs at seat.old seat.new op obj result }
     {
-        let place = place_of(self.cells, obj);
+        let place = self.spot(place_of(self.cells, obj));
         let seen = self.table.shared.load::<Look>(&mut seat.seat, place);
         let number = number_of(seen);
         if !is_asked(at, number) {
@@ -218,19 +245,19 @@ impl<'a> Cells<'a> {
     {
         self.table
             .shared
-            .load::<Look>(&mut seat.seat, place_of(self.cells, obj))
+            .load::<Look>(&mut seat.seat, self.spot(place_of(self.cells, obj)))
     }
 
-    // Where the want word of a stripe stands.
-    fn want_place(&self, lock: u16, stripe: u8) -> usize
+    // Where the table has the want word of a stripe.
+    fn want_spot(&self, lock: u16, stripe: u8) -> usize
         requires lock { lock < length self.now.code.locks }
         requires stripe { stripe < 8 }
-        ensures { result ≡ objects_end self.now.code self.now.setup + 8 * lock + stripe }
+        ensures { result ≡ spot_of self.now.code self.now.setup (objects_end self.now.code self.now.setup + 8 * lock + stripe) }
     {
-        self.objects + 8 * usize::from(lock) + usize::from(stripe)
+        self.spot(self.objects + 8 * usize::from(lock) + usize::from(stripe))
     }
 
-    /// Says that a stripe is wanted, or that it isn't any more.
+    /// Says that a stripe is wanted, or that it isn't any more. Where its want word says so already, it isn't written again.
     pub fn want(&self, seat: &mut Seat, lock: u16, stripe: u8, on: bool)
         requires seat { IsSeatOf self.now seat.old }
         requires lock { lock < length self.now.code.locks }
@@ -238,10 +265,12 @@ impl<'a> Cells<'a> {
         ensures seat { IsSeatOf self.now seat.new }
         ensures same { IsSameSeat seat.old seat.new }
     {
-        let place = self.want_place(lock, stripe);
-        self.table
-            .shared
-            .store::<Stay>(&mut seat.seat, place, u64::from(on));
+        let place = self.want_spot(lock, stripe);
+        let word = u64::from(on);
+        if self.table.shared.peek(place) == word {
+            return;
+        }
+        self.table.shared.store::<Stay>(&mut seat.seat, place, word);
     }
 
     /// Whether a stripe is wanted, as this look finds it.
@@ -252,7 +281,7 @@ impl<'a> Cells<'a> {
         ensures seat { IsSeatOf self.now seat.new }
         ensures tells { Tells seat.old seat.new (objects_end self.now.code self.now.setup + 8 * lock + stripe) result }
     {
-        let place = self.want_place(lock, stripe);
+        let place = self.want_spot(lock, stripe);
         self.table.shared.load::<Look>(&mut seat.seat, place) != 0
     }
 
@@ -331,17 +360,20 @@ impl<'a> Cells<'a> {
         ensures { IfOk result (λ c. Closes self.entry.code self.entry.setup seats.items c.words.items c.departure) }
     {
         let Cells {
+            cells,
+            lone,
             objects,
             departure,
             table,
             ..
         } = self;
+        let cells = cells as usize;
         let mut words = Vec::new(alloc);
         words.reserve(objects)?;
         let whole = join(&table.shared, seats);
         let closed = table.close_with(whole);
         for k in 0..objects {
-            put_word(&mut words, closed.word(k));
+            put_word(&mut words, closed.word(spot_of(cells, lone, k)));
         }
         let departure = closed.word(departure) as u32;
         closed.free();

@@ -11,6 +11,7 @@ mod cells;
 mod closed;
 mod dealing;
 mod seat;
+mod spots;
 mod steps;
 mod view;
 

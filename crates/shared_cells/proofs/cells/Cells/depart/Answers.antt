@@ -1,12 +1,10 @@
-use Rattle.std.proofs.Common.{◌≡◌, arith, subst, ◌∙◌}
+use Rattle.std.proofs.Common.{arith, ap, refl, ◌∙◌}
 use mathlib.Core.Option.{none}
-use Rattle.atomic_table.specs.Table.{step, Allows}
+use Rattle.shared_cells.specs.Views.{departing}
 use Rattle.shared_cells.specs.Words.{departure_place}
-use Rattle.shared_cells.specs.Plays.{Departs}
-use Rattle.shared_cells.specs.Rule.{Holds}
+use Rattle.shared_cells.specs.Plays.{IsSpotOf, DepartsAt}
 use Rattle.shared_cells.proofs.Keeping.{length-first_words}
-use Rattle.shared_cells.proofs.Calls.{called}
-use Rattle.shared_cells.proofs.Calls.{departure_is}
+use Rattle.shared_cells.proofs.Calls.{called, departure_is, on_table, at_spot_of, sits_as}
 use Rattle.shared_cells.proofs.Allowed.{depart_allowed}
 use Rattle.shared_cells.proofs.cells.Cells.depart.Goals as goal
 
@@ -16,12 +14,53 @@ load-requires c =
     let seat = c.args.seat.now in
     let me = seat.seat.me in
     let v = me.0 in
-    let k = called _ shared.key shared.table_id _ _ _ _ seat.seat.table_id me seat.thread c.self.view_is c.self.invariant.0 c.requires.seat in
-    let words = k.words ∙ length-first_words v.code v.setup in
-    let place : departure_place v.code v.setup ≡ c.self.inside.departure = departure_is _ shared.key shared.table_id _ _ _ _ seat.seat.table_id me seat.thread c.self.view_is c.self.invariant.0 c.requires.seat in (
+    let k = called _ shared.key shared.table_id _ _ _ _ _ seat.seat.table_id me seat.thread c.self.view_is c.self.invariant.0 c.requires.seat in
+    let p = departure_place v.code v.setup in
+    let q = c.self.inside.departure in
+    let words = length-first_words v.code v.setup in
+    let spot : IsSpotOf v p q = (omega (arith, words), departure_is _ shared.key shared.table_id _ _ _ _ _ seat.seat.table_id me seat.thread c.self.view_is c.self.invariant.0 c.requires.seat) in (
       k.table_is,
-      omega (arith, place, words),
-      subst (λ p. Allows (Holds shared.key) shared.table_id.slots seat.seat.id me p (λ w. w) (λ found after. Departs (step shared.table_id.slots p 0 0 none) me found after)) place
-          (subst (λ z. Allows (Holds z) shared.table_id.slots seat.seat.id me (departure_place v.code v.setup) (λ w. w) (λ found after. Departs (step shared.table_id.slots (departure_place v.code v.setup) 0 0 none) me found after)) k.known
-          (depart_allowed v me.1 shared.table_id.slots seat.seat.id k.alone k.runnable k.limits)),
+      on_table _ shared.key shared.table_id seat.seat.table_id me k shared.table_id.slots seat.seat.id p q spot,
+      at_spot_of _ shared.key shared.table_id seat.seat.table_id me k shared.table_id.slots seat.seat.id p q spot 0 0 none (λ w. w) DepartsAt
+          (depart_allowed v me.1 shared.table_id.slots seat.seat.id k.alone k.runnable k.limits),
     )
+
+pub returns-clause-seat : goal.returns-clause-seat
+returns-clause-seat c =
+    let shared = c.self.inside.table.shared in
+    let seat = c.args.seat.now in
+    let me = seat.seat.me in
+    let v = me.0 in
+    let k = called _ shared.key shared.table_id _ _ _ _ _ seat.seat.table_id me seat.thread c.self.view_is c.self.invariant.0 c.requires.seat in
+    let p = departure_place v.code v.setup in
+    let q = c.self.inside.departure in
+    let words = length-first_words v.code v.setup in
+    let spot : IsSpotOf v p q = (omega (arith, words), departure_is _ shared.key shared.table_id _ _ _ _ _ seat.seat.table_id me seat.thread c.self.view_is c.self.invariant.0 c.requires.seat) in
+    let told = c.load.ensures.2 p spot in
+    sits_as _ seat.seat.table_id c.load.new.seat.table_id me c.load.new.seat.me seat.thread c.requires.seat c.load.ensures.0 told.slots (departing v p c.load.result) told.view refl refl refl k.alone
+
+pub returns-clause-view : goal.returns-clause-view
+returns-clause-view c =
+    let shared = c.self.inside.table.shared in
+    let seat = c.args.seat.now in
+    let me = seat.seat.me in
+    let v = me.0 in
+    let k = called _ shared.key shared.table_id _ _ _ _ _ seat.seat.table_id me seat.thread c.self.view_is c.self.invariant.0 c.requires.seat in
+    let p = departure_place v.code v.setup in
+    let q = c.self.inside.departure in
+    let words = length-first_words v.code v.setup in
+    let spot : IsSpotOf v p q = (omega (arith, words), departure_is _ shared.key shared.table_id _ _ _ _ _ seat.seat.table_id me seat.thread c.self.view_is c.self.invariant.0 c.requires.seat) in
+    (c.load.ensures.2 p spot).view ∙ ap (λ z. departing v (departure_place z v.setup) c.load.result) k.code_is ∙ ap (λ z. departing v (departure_place c.args.self.now.code z) c.load.result) k.setup_is
+
+pub returns-clause-below : goal.returns-clause-below
+returns-clause-below c =
+    let shared = c.self.inside.table.shared in
+    let seat = c.args.seat.now in
+    let me = seat.seat.me in
+    let v = me.0 in
+    let k = called _ shared.key shared.table_id _ _ _ _ _ seat.seat.table_id me seat.thread c.self.view_is c.self.invariant.0 c.requires.seat in
+    let p = departure_place v.code v.setup in
+    let q = c.self.inside.departure in
+    let words = length-first_words v.code v.setup in
+    let spot : IsSpotOf v p q = (omega (arith, words), departure_is _ shared.key shared.table_id _ _ _ _ _ seat.seat.table_id me seat.thread c.self.view_is c.self.invariant.0 c.requires.seat) in
+    (c.load.ensures.2 p spot).below

@@ -1,12 +1,10 @@
-use Rattle.std.proofs.Common.{◌≡◌, arith, subst, min, ◌∙◌}
+use Rattle.std.proofs.Common.{arith, min}
 use mathlib.Core.Option.{none}
-use Rattle.atomic_table.specs.Table.{step, Allows}
+use Rattle.atomic_table.specs.Table.{step}
 use Rattle.shared_cells.specs.Words.{departure_place}
-use Rattle.shared_cells.specs.Plays.{Lowers}
-use Rattle.shared_cells.specs.Rule.{Holds}
+use Rattle.shared_cells.specs.Plays.{IsSpotOf, Lowers}
 use Rattle.shared_cells.proofs.Keeping.{length-first_words}
-use Rattle.shared_cells.proofs.Calls.{called}
-use Rattle.shared_cells.proofs.Calls.{departure_is}
+use Rattle.shared_cells.proofs.Calls.{called, departure_is, on_table, at_spot}
 use Rattle.shared_cells.proofs.Allowed.{lower_allowed}
 use Rattle.shared_cells.proofs.cells.Cells.least.Goals as goal
 
@@ -16,13 +14,16 @@ fetch_min-requires c =
     let seat = c.args.seat.now in
     let me = seat.seat.me in
     let v = me.0 in
-    let k = called _ shared.key shared.table_id _ _ _ _ seat.seat.table_id me seat.thread c.self.view_is c.self.invariant.0 c.requires.seat in
-    let words = k.words ∙ length-first_words v.code v.setup in
-    let place : departure_place v.code v.setup ≡ c.self.inside.departure = departure_is _ shared.key shared.table_id _ _ _ _ seat.seat.table_id me seat.thread c.self.view_is c.self.invariant.0 c.requires.seat in
-    let x = c.from.result in (
+    let k = called _ shared.key shared.table_id _ _ _ _ _ seat.seat.table_id me seat.thread c.self.view_is c.self.invariant.0 c.requires.seat in
+    let p = departure_place v.code v.setup in
+    let q = c.self.inside.departure in
+    let words = length-first_words v.code v.setup in
+    let spot : IsSpotOf v p q = (omega (arith, words), departure_is _ shared.key shared.table_id _ _ _ _ _ seat.seat.table_id me seat.thread c.self.view_is c.self.invariant.0 c.requires.seat) in
+    let x = c.from.result in
+    let slots = shared.table_id.slots in (
       k.table_is,
-      omega (arith, place, words),
-      subst (λ p. Allows (Holds shared.key) shared.table_id.slots seat.seat.id me p (λ w. min w x) (λ found after. Lowers (step shared.table_id.slots p x 0 none) me found after)) place
-          (subst (λ z. Allows (Holds z) shared.table_id.slots seat.seat.id me (departure_place v.code v.setup) (λ w. min w x) (λ found after. Lowers (step shared.table_id.slots (departure_place v.code v.setup) x 0 none) me found after)) k.known
-          (lower_allowed v me.1 shared.table_id.slots seat.seat.id k.alone k.runnable k.limits x)),
+      on_table _ shared.key shared.table_id seat.seat.table_id me k slots seat.seat.id p q spot,
+      at_spot _ shared.key shared.table_id seat.seat.table_id me k slots seat.seat.id p q spot (λ w. min w x) (λ found after. Lowers (step slots p x 0 none) me found after) (λ found after. Lowers (step slots q x 0 none) me found after)
+          (λ found after tells. record { slots = tells.slots; view = tells.view; below = tells.below; low = tells.low })
+          (lower_allowed v me.1 slots seat.seat.id k.alone k.runnable k.limits x),
     )

@@ -1,11 +1,10 @@
-use Rattle.std.proofs.Common.{◌≡◌, ◌+◌, ◌*◌, ◌<◌, arith, subst, sym, ap, ◌∙◌, length}
+use Rattle.std.proofs.Common.{◌+◌, ◌*◌, ◌<◌, arith, refl, subst, sym, length}
 use mathlib.Core.Option.{none}
-use Rattle.atomic_table.specs.Table.{step, Allows}
-use Rattle.shared_cells.specs.Words.{objects_end}
-use Rattle.shared_cells.specs.Plays.{Looks}
-use Rattle.shared_cells.specs.Rule.{Holds}
+use Rattle.shared_cells.specs.Views.{looked}
+use Rattle.shared_cells.specs.Words.{objects_end, first_words}
+use Rattle.shared_cells.specs.Plays.{LooksAt}
 use Rattle.shared_cells.proofs.Keeping.{length-first_words}
-use Rattle.shared_cells.proofs.Calls.{called}
+use Rattle.shared_cells.proofs.Calls.{called, spot_there, on_table, at_spot_of, sits_as}
 use Rattle.shared_cells.proofs.Allowed.{look_allowed}
 use Rattle.shared_cells.proofs.cells.Cells.wanted.Goals as goal
 
@@ -15,13 +14,46 @@ load-requires c =
     let seat = c.args.seat.now in
     let me = seat.seat.me in
     let v = me.0 in
-    let k = called _ shared.key shared.table_id _ _ _ _ seat.seat.table_id me seat.thread c.self.view_is c.self.invariant.0 c.requires.seat in
-    let words = k.words ∙ length-first_words v.code v.setup in
-    let p = c.want_place-place.result in
-    let low : c.args.lock < length v.code.locks = subst (λ z. c.args.lock < length z.locks) (sym k.code_is) c.requires.lock in
-    let place : p ≡ objects_end v.code v.setup + 8 * c.args.lock + c.args.stripe = c.want_place-place.ensures ∙ ap (λ z. objects_end z c.args.self.now.setup + 8 * c.args.lock + c.args.stripe) (sym k.code_is) ∙ ap (λ z. objects_end v.code z + 8 * c.args.lock + c.args.stripe) (sym k.setup_is) in (
+    let k = called _ shared.key shared.table_id _ _ _ _ _ seat.seat.table_id me seat.thread c.self.view_is c.self.invariant.0 c.requires.seat in
+    let b = c.args.self.now in
+    let p = objects_end b.code b.setup + 8 * c.args.lock + c.args.stripe in
+    let q = c.want_spot-place.result in
+    let words = length-first_words b.code b.setup in
+    let inside : p < length (first_words b.code b.setup) = omega (arith, words, c.requires.lock, c.requires.stripe) in
+    let spot = spot_there _ shared.key shared.table_id seat.seat.table_id me k p q (subst (λ z. p < length (first_words v.code z)) (sym k.setup_is) (subst (λ z. p < length (first_words z b.setup)) (sym k.code_is) inside)) c.want_spot-place.ensures in (
       k.table_is,
-      omega (arith, place, words, low, c.requires.stripe),
-      subst (λ z. Allows (Holds z) shared.table_id.slots seat.seat.id me p (λ w. w) (λ found after. Looks (step shared.table_id.slots p 0 0 none) me found after)) k.known
+      on_table _ shared.key shared.table_id seat.seat.table_id me k shared.table_id.slots seat.seat.id p q spot,
+      at_spot_of _ shared.key shared.table_id seat.seat.table_id me k shared.table_id.slots seat.seat.id p q spot 0 0 none (λ w. w) LooksAt
           (look_allowed v me.1 shared.table_id.slots seat.seat.id k.alone k.runnable k.limits p),
     )
+
+pub returns-clause-seat : goal.returns-clause-seat
+returns-clause-seat c =
+    let shared = c.self.inside.table.shared in
+    let seat = c.args.seat.now in
+    let me = seat.seat.me in
+    let v = me.0 in
+    let k = called _ shared.key shared.table_id _ _ _ _ _ seat.seat.table_id me seat.thread c.self.view_is c.self.invariant.0 c.requires.seat in
+    let b = c.args.self.now in
+    let p = objects_end b.code b.setup + 8 * c.args.lock + c.args.stripe in
+    let q = c.want_spot-place.result in
+    let words = length-first_words b.code b.setup in
+    let inside : p < length (first_words b.code b.setup) = omega (arith, words, c.requires.lock, c.requires.stripe) in
+    let spot = spot_there _ shared.key shared.table_id seat.seat.table_id me k p q (subst (λ z. p < length (first_words v.code z)) (sym k.setup_is) (subst (λ z. p < length (first_words z b.setup)) (sym k.code_is) inside)) c.want_spot-place.ensures in
+    let told = c.load.ensures.2 p spot in
+    sits_as _ seat.seat.table_id c.load.new.seat.table_id me c.load.new.seat.me seat.thread c.requires.seat c.load.ensures.0 told.slots (looked v p c.load.result) told.view refl refl refl k.alone
+
+pub returns-clause-tells : goal.returns-clause-tells
+returns-clause-tells c =
+    let shared = c.self.inside.table.shared in
+    let seat = c.args.seat.now in
+    let me = seat.seat.me in
+    let v = me.0 in
+    let k = called _ shared.key shared.table_id _ _ _ _ _ seat.seat.table_id me seat.thread c.self.view_is c.self.invariant.0 c.requires.seat in
+    let b = c.args.self.now in
+    let p = objects_end b.code b.setup + 8 * c.args.lock + c.args.stripe in
+    let q = c.want_spot-place.result in
+    let words = length-first_words b.code b.setup in
+    let inside : p < length (first_words b.code b.setup) = omega (arith, words, c.requires.lock, c.requires.stripe) in
+    let spot = spot_there _ shared.key shared.table_id seat.seat.table_id me k p q (subst (λ z. p < length (first_words v.code z)) (sym k.setup_is) (subst (λ z. p < length (first_words z b.setup)) (sym k.code_is) inside)) c.want_spot-place.ensures in
+    record { value = c.load.result; view = (c.load.ensures.2 p spot).view; is = refl; marks = refl }
