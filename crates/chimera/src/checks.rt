@@ -8,6 +8,7 @@ use std::process::Abort;
 use std::sync::Wait;
 use std::test::Fail;
 use std::thread::Threads;
+use std::time::Clock;
 
 // What is told and the status are those that are wanted.
 fn tells(rt: &impl Abort, told: &[u8], status: u8, want: (&str, u8)) {
@@ -18,7 +19,7 @@ fn tells(rt: &impl Abort, told: &[u8], status: u8, want: (&str, u8)) {
 
 /// Calls with these words on this crew, and compares what is told and the status.
 pub fn check_on<C: Crew>(
-    rt: &(impl Abort + Threads + Wait + Sync),
+    rt: &(impl Abort + Threads + Wait + Clock + Sync),
     alloc: Global,
     words: &[&str],
     outside: &Outside,

@@ -26,6 +26,7 @@ use std::process::ExitCode;
 use std::rt::Files;
 use std::sync::Wait;
 use std::thread::Threads;
+use std::time::Clock;
 
 // All words of the command line, the program's name first.
 fn command_line(rt: &(impl std::rt::Env + AllocGlobal)) -> io::Result<Vec<String>> {
@@ -47,7 +48,7 @@ fn past_name(mut line: Vec<String>) -> Vec<String>
 }
 
 // Does what the words ask for, on these streams and the system's files and threads.
-fn run<R: Threads + Wait + Sync + Files, I: Read + Drop, O: Write + Drop>(
+fn run<R: Threads + Wait + Clock + Sync + Files, I: Read + Drop, O: Write + Drop>(
     rt: &R,
     alloc: Global,
     words: &[String],

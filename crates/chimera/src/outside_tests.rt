@@ -9,6 +9,7 @@ use std::process::Abort;
 use std::sync::Wait;
 use std::test::Fail;
 use std::thread::Threads;
+use std::time::Clock;
 
 /// What fails of the outside: nothing, the call of this number of one of its objects, or the crew after this number of turns.
 #[derive(Clone, Copy)]
@@ -102,7 +103,7 @@ fn outside_of<'a>(failing: Failing, number: &'a [u64]) -> Outside<'a> {
 
 // Calls with these words on the outside's crew.
 fn check_in(
-    rt: &(impl Abort + Threads + Wait + Sync),
+    rt: &(impl Abort + Threads + Wait + Clock + Sync),
     alloc: Global,
     words: &[&str],
     outside: &Outside,
@@ -114,7 +115,7 @@ fn check_in(
 }
 
 fn check_failing(
-    rt: &(impl Abort + Threads + Wait + Sync),
+    rt: &(impl Abort + Threads + Wait + Clock + Sync),
     alloc: Global,
     words: &[&str],
     failing: Failing,
@@ -136,7 +137,7 @@ fn check_failing(
 }
 
 fn check_rows(
-    rt: &(impl Abort + Threads + Wait + Sync),
+    rt: &(impl Abort + Threads + Wait + Clock + Sync),
     alloc: Global,
     rows: &[(&[&str], Failing, &str, u8, (bool, bool))],
 ) -> Result<(), Fail> {

@@ -12,10 +12,11 @@ use std::process::Abort;
 use std::sync::Wait;
 use std::test::Fail;
 use std::thread::Threads;
+use std::time::Clock;
 
 // Calls with these words, where each thread of the source is one of the system.
 fn check_on_threads(
-    rt: &(impl Abort + Threads + Wait + Sync),
+    rt: &(impl Abort + Threads + Wait + Clock + Sync),
     alloc: Global,
     words: &[&str],
     shelf: &mut MemShelf,
@@ -34,7 +35,7 @@ static RECORDS: [(&[&str], &str, &str); 4] = [
 ];
 
 fn check_record(
-    rt: &(impl Abort + Threads + Wait + Sync),
+    rt: &(impl Abort + Threads + Wait + Clock + Sync),
     alloc: Global,
     words: &[&str],
     source: &str,
@@ -54,7 +55,7 @@ fn records_on_threads(rt: HostRuntime) -> Result<(), Fail> {
 }
 
 fn check_change(
-    rt: &(impl Abort + Threads + Wait + Sync),
+    rt: &(impl Abort + Threads + Wait + Clock + Sync),
     alloc: Global,
     entries: &[&str],
     want: (&str, u8),
@@ -64,7 +65,10 @@ fn check_change(
 }
 
 // The bank's log with one thing changed.
-fn check_changes(rt: &(impl Abort + Threads + Wait + Sync), alloc: Global) -> Result<(), Fail> {
+fn check_changes(
+    rt: &(impl Abort + Threads + Wait + Clock + Sync),
+    alloc: Global,
+) -> Result<(), Fail> {
     for &(entries, text, status) in &CHANGES {
         check_change(rt, alloc, entries, (text, status))?;
     }
@@ -72,7 +76,7 @@ fn check_changes(rt: &(impl Abort + Threads + Wait + Sync), alloc: Global) -> Re
 }
 
 fn check_row(
-    rt: &(impl Abort + Threads + Wait + Sync),
+    rt: &(impl Abort + Threads + Wait + Clock + Sync),
     alloc: Global,
     source: &str,
     log: &[&str],
@@ -83,7 +87,7 @@ fn check_row(
 }
 
 fn check_rows(
-    rt: &(impl Abort + Threads + Wait + Sync),
+    rt: &(impl Abort + Threads + Wait + Clock + Sync),
     alloc: Global,
     rows: &[(&str, &[&str], &str, u8)],
 ) -> Result<(), Fail> {
@@ -93,15 +97,24 @@ fn check_rows(
     Ok(())
 }
 
-fn check_runs(rt: &(impl Abort + Threads + Wait + Sync), alloc: Global) -> Result<(), Fail> {
+fn check_runs(
+    rt: &(impl Abort + Threads + Wait + Clock + Sync),
+    alloc: Global,
+) -> Result<(), Fail> {
     check_rows(rt, alloc, &RUNS)
 }
 
-fn check_more_runs(rt: &(impl Abort + Threads + Wait + Sync), alloc: Global) -> Result<(), Fail> {
+fn check_more_runs(
+    rt: &(impl Abort + Threads + Wait + Clock + Sync),
+    alloc: Global,
+) -> Result<(), Fail> {
     check_rows(rt, alloc, &MORE_RUNS)
 }
 
-fn check_weak_runs(rt: &(impl Abort + Threads + Wait + Sync), alloc: Global) -> Result<(), Fail> {
+fn check_weak_runs(
+    rt: &(impl Abort + Threads + Wait + Clock + Sync),
+    alloc: Global,
+) -> Result<(), Fail> {
     check_rows(rt, alloc, &WEAK_RUNS)
 }
 

@@ -9,6 +9,7 @@ use crate::threads::in_threads;
 use std::alloc::{AllocError, Global};
 use std::sync::Wait;
 use std::thread::Threads;
+use std::time::Clock;
 use thiserror::Error;
 
 /// Why a crew hands back no jobs.
@@ -65,7 +66,7 @@ pub trait Crew {
         ensures faults { faults self.new ≡ faults self.old };
 
     /// Runs the jobs until all have ended, and hands them back in their order.
-    final fn run<R: Threads + Wait + Sync, J: Job + Send>(
+    final fn run<R: Threads + Wait + Clock + Sync, J: Job + Send>(
         &mut self,
         rt: &R,
         alloc: Global,
@@ -85,7 +86,7 @@ pub trait Crew {
 }
 
 /// The jobs of a crew with threads.
-fn run_in_threads<C: Crew, R: Threads + Wait + Sync, J: Job + Send>(
+fn run_in_threads<C: Crew, R: Threads + Wait + Clock + Sync, J: Job + Send>(
     crew: &mut C,
     rt: &R,
     alloc: Global,

@@ -4,10 +4,12 @@ ghost use Rattle.crew.specs.Hands.{IsHandOf, IsReady, IsReadyHandOf};
 
 use crate::given::Given;
 use crate::job::Job;
+use crate::rest::rest;
 use crate::table::{Table, take};
 use std::marker::PhantomData;
 use std::sync::Wait;
 use std::thread::{Promise, PromisedHandle, Scope, Threads};
+use std::time::Clock;
 
 /// The promise that an ended job is handed back, to which the given one with this number has led.
 #[derive(Drop)]
@@ -28,26 +30,27 @@ pub(crate) enum Hand<J: Job, G: Given<J>> {
 }
 
 /// Gives the job turns until it has ended.
-fn finish<R: Wait, J: Job>(rt: &R, mut job: J) -> J
+fn finish<R: Wait + Clock, J: Job>(rt: &R, mut job: J) -> J
     ensures { Finished J.Job job result }
 {
     for _ in rt.forever() {
         if job.turn() {
             return job;
         }
+        rest(rt, job.turns_in_vain());
     }
     unreachable!()
 }
 
 /// What a thread does with the job of this number.
-fn work<R: Wait, J: Job, G: Given<J>>(rt: &R, table: &Table<J, G>, at: usize) -> J
+fn work<R: Wait + Clock, J: Job, G: Given<J>>(rt: &R, table: &Table<J, G>, at: usize) -> J
     ensures { FinishedAt J.Job G.given at result }
 {
     finish(rt, take(rt, table, at))
 }
 
 /// Starts a thread for the job of this number. Where none can be started, the job comes back.
-pub(crate) fn start<'s, E, R: Threads + Wait + Sync, J: Job + Send, G: Given<J> + Send>(
+pub(crate) fn start<'s, E, R: Threads + Wait + Clock + Sync, J: Job + Send, G: Given<J> + Send>(
     scope: &Scope<'s, E>,
     rt: &'s R,
     table: &'s Table<J, G>,

@@ -9,9 +9,10 @@ use crate::job::Job;
 use crate::table::Table;
 use std::sync::Wait;
 use std::thread::{Scope, Threads};
+use std::time::Clock;
 
 /// Starts a thread for each job.
-fn start_all<'s, E, R: Threads + Wait + Sync, J: Job + Send, G: Given<J> + Send>(
+fn start_all<'s, E, R: Threads + Wait + Clock + Sync, J: Job + Send, G: Given<J> + Send>(
     scope: &Scope<'s, E>,
     rt: &'s R,
     table: &'s Table<J, G>,
@@ -62,7 +63,7 @@ fn finish_all<R: Wait, J: Job, G: Given<J>>(rt: &R, hands: &mut Vec<Hand<J, G>>)
 }
 
 /// Starts a thread for each job, and brings to their end those for which none could be started.
-pub(crate) fn run_all<'s, E, R: Threads + Wait + Sync, J: Job + Send, G: Given<J> + Send>(
+pub(crate) fn run_all<'s, E, R: Threads + Wait + Clock + Sync, J: Job + Send, G: Given<J> + Send>(
     scope: &Scope<'s, E>,
     rt: &'s R,
     table: &'s Table<J, G>,

@@ -23,6 +23,10 @@ pub trait Job: Drop {
     fn turns(&self) -> u64
         ensures { result ≡ turns self.now };
 
+    /// For how many turns on end the job came no further, since it waits for another one. Any number will do: a crew's threads only
+    /// rest the longer for it.
+    fn turns_in_vain(&self) -> u32;
+
     ghost reflexive: { (job : Self) → leads_to job job };
 
     ghost transitive: { (first second third : Self) → leads_to first second → leads_to second third → leads_to first third };

@@ -12,6 +12,7 @@ mod hand;
 mod hands;
 mod job;
 mod play;
+mod rest;
 mod sched;
 mod scope_crew;
 mod table;

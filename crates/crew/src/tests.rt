@@ -14,6 +14,7 @@ use std::sync::atomic::Ordering::SeqCst;
 use std::test::Fail;
 use std::thread;
 use std::thread::Threads;
+use std::time::Clock;
 
 /// A job of so many turns, which notes by a common clock when it got them, as the digits of a number to the base 16.
 #[derive(Drop)]
@@ -44,6 +45,10 @@ impl<'a> Job for Ticker<'a> {
     fn turns(&self) -> u64 {
         self.turns
     }
+
+    fn turns_in_vain(&self) -> u32 {
+        0
+    }
 }
 
 fn job_of(clock: &AtomicU64, length: u64) -> Ticker<'_> {
@@ -70,7 +75,7 @@ fn jobs_of<'a>(
 
 // When each of two jobs of these lengths had its turns, or how the crew ended.
 fn ticks_of(
-    rt: &(impl Abort + Threads + Wait + Sync),
+    rt: &(impl Abort + Threads + Wait + Clock + Sync),
     alloc: Global,
     crew: &mut SchedCrew,
     lengths: &[u64],
@@ -118,7 +123,7 @@ fn turns_by_an_order(rt: HostRuntime) -> Result<(), Fail> {
 }
 
 /// The lengths of three jobs after a run, and how many turns each of them had.
-fn run_three<R: Threads + Wait + Sync>(
+fn run_three<R: Threads + Wait + Clock + Sync>(
     rt: &R,
     alloc: Global,
     crew: &mut ScopeCrew,
@@ -200,6 +205,10 @@ impl<'a> Job for Gate<'a> {
 
     fn turns(&self) -> u64 {
         self.turns
+    }
+
+    fn turns_in_vain(&self) -> u32 {
+        0
     }
 }
 

@@ -15,9 +15,10 @@ use std::marker::Brand;
 use std::sync::Wait;
 use std::thread;
 use std::thread::Threads;
+use std::time::Clock;
 
 /// Runs each job to its end in a thread of its own, and answers how many turns they were given.
-pub(crate) fn in_threads<R: Threads + Wait + Sync, J: Job + Send>(
+pub(crate) fn in_threads<R: Threads + Wait + Clock + Sync, J: Job + Send>(
     rt: &R,
     alloc: Global,
     jobs: Vec<J>,
@@ -33,7 +34,7 @@ pub(crate) fn in_threads<R: Threads + Wait + Sync, J: Job + Send>(
 }
 
 /// Runs the jobs that were given. All memory is taken before the first thread is started.
-fn run_given<R: Threads + Wait + Sync, J: Job + Send, G: Given<J> + Send>(
+fn run_given<R: Threads + Wait + Clock + Sync, J: Job + Send, G: Given<J> + Send>(
     rt: &R,
     alloc: Global,
     jobs: Vec<J>,
@@ -50,7 +51,7 @@ fn run_given<R: Threads + Wait + Sync, J: Job + Send, G: Given<J> + Send>(
 }
 
 /// Runs the jobs on the table in threads of a scope of their own.
-fn run_in_scope<R: Threads + Wait + Sync, J: Job + Send, G: Given<J> + Send>(
+fn run_in_scope<R: Threads + Wait + Clock + Sync, J: Job + Send, G: Given<J> + Send>(
     rt: &R,
     table: &Table<J, G>,
     hands: Vec<Hand<J, G>>,

@@ -27,6 +27,7 @@ use rr_base::{Bytes, List, Source};
 use std::alloc::{AllocError, Global};
 use std::sync::Wait;
 use std::thread::Threads;
+use std::time::Clock;
 use sync_objects::Setup;
 use thread_interpreter::Formula;
 use walk_answers::{formula_of, outcome_of};
@@ -35,7 +36,7 @@ use walk_answers::{formula_of, outcome_of};
 const INPUT_BYTES: u32 = 1_048_576;
 
 // A run of the weakened code, whose log is within the limits of a log.
-fn run<R: Threads + Wait + Sync, C: Crew>(
+fn run<R: Threads + Wait + Clock + Sync, C: Crew>(
     rt: &R,
     alloc: Global,
     weakened: &Weakened,
@@ -91,7 +92,7 @@ fn told<'a>(
 }
 
 /// The recording of weakened code on an input.
-pub fn recorded_on<'a, R: Threads + Wait + Sync, C: Crew>(
+pub fn recorded_on<'a, R: Threads + Wait + Clock + Sync, C: Crew>(
     rt: &R,
     alloc: Global,
     weakened: &Weakened,
@@ -115,7 +116,7 @@ pub fn recorded_on<'a, R: Threads + Wait + Sync, C: Crew>(
 }
 
 /// The recording of weakened code, whose input comes first.
-pub fn recorded_code<'a, R: Threads + Wait + Sync, I: Source, C: Crew>(
+pub fn recorded_code<'a, R: Threads + Wait + Clock + Sync, I: Source, C: Crew>(
     rt: &R,
     alloc: Global,
     weakened: &Weakened,

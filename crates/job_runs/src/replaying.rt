@@ -20,11 +20,12 @@ use rr_base::List;
 use std::alloc::Global;
 use std::sync::Wait;
 use std::thread::Threads;
+use std::time::Clock;
 use thread_interpreter::Formula;
 use walk_answers::{formula_of, outcome_of};
 
 // The walk of the log on the weakened code, whose threads follow it side by side.
-fn walked<R: Threads + Wait + Sync, C: Crew>(
+fn walked<R: Threads + Wait + Clock + Sync, C: Crew>(
     rt: &R,
     alloc: Global,
     weakened: &Weakened,
@@ -49,7 +50,7 @@ fn walked<R: Threads + Wait + Sync, C: Crew>(
 }
 
 /// What is told of that walk.
-pub fn told_walk<'a, R: Threads + Wait + Sync, C: Crew>(
+pub fn told_walk<'a, R: Threads + Wait + Clock + Sync, C: Crew>(
     rt: &R,
     alloc: Global,
     weakened: &Weakened,

@@ -17,6 +17,7 @@ use rr_base::Bytes;
 use std::alloc::{AllocError, Global};
 use std::sync::Wait;
 use std::thread::Threads;
+use std::time::Clock;
 
 // What was printed.
 fn printed(answer: &Answer) -> &[u8]
@@ -64,7 +65,7 @@ fn summary(
 }
 
 /// The log of a recording is put and replayed, and both are told.
-pub fn replayed_log<'a, R: Threads + Wait + Sync, S: Keeper, C: Crew>(
+pub fn replayed_log<'a, R: Threads + Wait + Clock + Sync, S: Keeper, C: Crew>(
     rt: &R,
     alloc: Global,
     weakened: &Weakened,

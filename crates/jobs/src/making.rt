@@ -23,6 +23,7 @@ use rr_base::List;
 use std::alloc::{AllocError, Global};
 use std::sync::Wait;
 use std::thread::Threads;
+use std::time::Clock;
 use workload::program_of;
 
 // The name of a made source's log.
@@ -62,7 +63,7 @@ fn made_code(alloc: Global, source: &[u8]) -> Result<Weakened, Stop>
 }
 
 // The code of a source that was put is recorded without input, and its log is put and replayed.
-fn made<'a, R: Threads + Wait + Sync, S: Keeper, C: Crew>(
+fn made<'a, R: Threads + Wait + Clock + Sync, S: Keeper, C: Crew>(
     rt: &R,
     alloc: Global,
     weakened: &Weakened,
@@ -90,7 +91,7 @@ fn made<'a, R: Threads + Wait + Sync, S: Keeper, C: Crew>(
 
 /// The outcome of making a source with so many functions, under this name, which is recorded and replayed. The source and its log are
 /// put on the way, and stay where a later step fails.
-pub(crate) fn make<'a, R: Threads + Wait + Sync, S: Keeper, C: Crew>(
+pub(crate) fn make<'a, R: Threads + Wait + Clock + Sync, S: Keeper, C: Crew>(
     rt: &R,
     alloc: Global,
     count: u32,

@@ -29,9 +29,10 @@ use rr_base::Source;
 use std::alloc::Global;
 use std::sync::Wait;
 use std::thread::Threads;
+use std::time::Clock;
 
 // The outcome of a source's bytes for this profile.
-fn recorded<'a, R: Threads + Wait + Sync, I: Source, C: Crew>(
+fn recorded<'a, R: Threads + Wait + Clock + Sync, I: Source, C: Crew>(
     rt: &R,
     alloc: Global,
     source: &[u8],
@@ -64,7 +65,7 @@ fn recorded<'a, R: Threads + Wait + Sync, I: Source, C: Crew>(
 }
 
 /// The outcome of a recording of a source by its name.
-pub(crate) fn record_source<'a, R: Threads + Wait + Sync, I: Source, S: Keeper, C: Crew>(
+pub(crate) fn record_source<'a, R: Threads + Wait + Clock + Sync, I: Source, S: Keeper, C: Crew>(
     rt: &R,
     alloc: Global,
     job: &RecordJob<'a>,

@@ -16,9 +16,10 @@ use job_runs::told_walk;
 use std::alloc::Global;
 use std::sync::Wait;
 use std::thread::Threads;
+use std::time::Clock;
 
 /// The outcome of a source and a log by their names.
-pub(crate) fn replay<'a, R: Threads + Wait + Sync, S: Keeper, C: Crew>(
+pub(crate) fn replay<'a, R: Threads + Wait + Clock + Sync, S: Keeper, C: Crew>(
     rt: &R,
     alloc: Global,
     source: &str,

@@ -25,9 +25,10 @@ use rr_base::{Sink, Source};
 use std::alloc::{AllocError, Global};
 use std::sync::Wait;
 use std::thread::Threads;
+use std::time::Clock;
 
 // The outcome of a job.
-fn outcome_of_job<'a, R: Threads + Wait + Sync, I: Source, S: Keeper, C: Crew>(
+fn outcome_of_job<'a, R: Threads + Wait + Clock + Sync, I: Source, S: Keeper, C: Crew>(
     rt: &R,
     alloc: Global,
     job: Job<'a>,
@@ -73,7 +74,7 @@ fn outcome_of_job<'a, R: Threads + Wait + Sync, I: Source, S: Keeper, C: Crew>(
 }
 
 // Does a job, where there is one, and tells what it comes to.
-fn do_job<'a, R: Threads + Wait + Sync, I: Source, O: Sink, S: Keeper, C: Crew>(
+fn do_job<'a, R: Threads + Wait + Clock + Sync, I: Source, O: Sink, S: Keeper, C: Crew>(
     rt: &R,
     alloc: Global,
     found: Option<Job<'a>>,
@@ -111,7 +112,7 @@ fn do_job<'a, R: Threads + Wait + Sync, I: Source, O: Sink, S: Keeper, C: Crew>(
 /// refused. Nothing is put but where the run ended or a thread trapped, a checkpoint of a log, and a made source and its log, which are put on the way. Only a recording touches `input`, and
 /// only a recording, a replay and the making of a source have the crew run threads: a job for each slot, with a turn for each
 /// entry of the log, or more; a refusal comes before that.
-pub fn chimera<R: Threads + Wait + Sync, I: Source, O: Sink, S: Keeper, C: Crew>(
+pub fn chimera<R: Threads + Wait + Clock + Sync, I: Source, O: Sink, S: Keeper, C: Crew>(
     rt: &R,
     alloc: Global,
     words: &[String],

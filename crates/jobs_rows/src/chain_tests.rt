@@ -8,6 +8,7 @@ use std::process::Abort;
 use std::sync::Wait;
 use std::test::Fail;
 use std::thread::Threads;
+use std::time::Clock;
 
 // Which events of the catalogue's run are asked for, and what is told of their order.
 static CATALOGUE_ROWS: [(&str, &str, &str, u8); 26] = [
@@ -115,7 +116,7 @@ static ROWS: [(&str, &[&str], [&str; 2], &str, u8); 12] = [
 ];
 
 fn check_chain(
-    rt: &(impl Abort + Threads + Wait + Sync),
+    rt: &(impl Abort + Threads + Wait + Clock + Sync),
     alloc: Global,
     source: &str,
     log: &[&str],

@@ -12,6 +12,7 @@ use std::process::Abort;
 use std::sync::Wait;
 use std::test::Fail;
 use std::thread::Threads;
+use std::time::Clock;
 
 const EMPTY: &str = "int main(void){return 0;}\n";
 
@@ -46,7 +47,7 @@ const SWAPPED: &[&str] = &[FIRST, SLOTS_8, STARTS, BEGIN, UNLOCK, LOCK, GOES_ON,
 
 // After so many entries of the log a checkpoint is taken, and from there the walk tells this.
 fn check_from(
-    rt: &(impl Abort + Threads + Wait + Sync),
+    rt: &(impl Abort + Threads + Wait + Clock + Sync),
     alloc: Global,
     shelf: &mut MemShelf,
     count: &str,
@@ -114,7 +115,7 @@ static EACH: [(&str, &[&str], u32, u32, &str, &str, u8); 5] = [
 ];
 
 fn check_each(
-    rt: &(impl Abort + Threads + Wait + Sync),
+    rt: &(impl Abort + Threads + Wait + Clock + Sync),
     alloc: Global,
     row: &(&str, &[&str], u32, u32, &str, &str, u8),
 ) -> Result<(), Fail> {

@@ -9,6 +9,7 @@ use std::process::Abort;
 use std::sync::Wait;
 use std::test::Fail;
 use std::thread::Threads;
+use std::time::Clock;
 
 // What is told and the status are those that are wanted.
 fn tells(rt: &impl Abort, told: &[u8], status: u8, want: (&str, u8)) {
@@ -19,7 +20,7 @@ fn tells(rt: &impl Abort, told: &[u8], status: u8, want: (&str, u8)) {
 
 /// Calls with these words on this crew, and compares what is told and the status.
 pub fn check_on<C: Crew>(
-    rt: &(impl Abort + Threads + Wait + Sync),
+    rt: &(impl Abort + Threads + Wait + Clock + Sync),
     alloc: Global,
     words: &[&str],
     outside: &Outside,
@@ -38,7 +39,7 @@ pub fn check_on<C: Crew>(
 
 /// The same on the outside's crew.
 pub fn check_in(
-    rt: &(impl Abort + Threads + Wait + Sync),
+    rt: &(impl Abort + Threads + Wait + Clock + Sync),
     alloc: Global,
     words: &[&str],
     outside: &Outside,
@@ -51,7 +52,7 @@ pub fn check_in(
 
 /// The same over a sink that fails at these calls.
 pub fn check(
-    rt: &(impl Abort + Threads + Wait + Sync),
+    rt: &(impl Abort + Threads + Wait + Clock + Sync),
     alloc: Global,
     words: &[&str],
     fails: &[u64],
@@ -67,7 +68,7 @@ pub fn check(
 
 /// The same over a sound sink and these two files.
 pub fn check_files(
-    rt: &(impl Abort + Threads + Wait + Sync),
+    rt: &(impl Abort + Threads + Wait + Clock + Sync),
     alloc: Global,
     words: &[&str],
     source: &[&str],
@@ -80,7 +81,7 @@ pub fn check_files(
 
 /// A source of one byte more than it may have, and no file of the name in `missing`.
 pub fn check_large(
-    rt: &(impl Abort + Threads + Wait + Sync),
+    rt: &(impl Abort + Threads + Wait + Clock + Sync),
     alloc: Global,
     words: &[&str],
     missing: &[&str],
@@ -113,7 +114,7 @@ pub fn holds_parts(
 
 /// A call with these words on source `a` and log `b`, which stays.
 pub fn check_on_log(
-    rt: &(impl Abort + Threads + Wait + Sync),
+    rt: &(impl Abort + Threads + Wait + Clock + Sync),
     alloc: Global,
     words: &[&str],
     source: &str,
@@ -127,7 +128,7 @@ pub fn check_on_log(
 
 /// A log that is none, one that isn't there under the name in `missing`, and a sink that fails.
 pub fn check_log_ends(
-    rt: &(impl Abort + Threads + Wait + Sync),
+    rt: &(impl Abort + Threads + Wait + Clock + Sync),
     alloc: Global,
     words: &[&str],
     missing: &[&str],

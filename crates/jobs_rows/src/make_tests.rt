@@ -7,6 +7,7 @@ use std::process::Abort;
 use std::sync::Wait;
 use std::test::Fail;
 use std::thread::Threads;
+use std::time::Clock;
 use workload::program_of;
 
 fn holds_source(rt: &impl Abort, alloc: Global, shelf: &MemShelf) -> Result<(), Fail> {
@@ -37,7 +38,7 @@ static NO_MAKES: [&[&str]; 4] = [
 
 // File `a` stays empty.
 fn check_no_make(
-    rt: &(impl Abort + Threads + Wait + Sync),
+    rt: &(impl Abort + Threads + Wait + Clock + Sync),
     alloc: Global,
     words: &[&str],
 ) -> Result<(), Fail> {
@@ -65,7 +66,7 @@ static FAULTS: [(&[u64], &[u64], u64, &str, u8, bool, bool); 5] = [
 ];
 
 fn check_fault(
-    rt: &(impl Abort + Threads + Wait + Sync),
+    rt: &(impl Abort + Threads + Wait + Clock + Sync),
     alloc: Global,
     row: (&[u64], &[u64], u64, &str, u8, bool, bool),
 ) -> Result<(), Fail> {

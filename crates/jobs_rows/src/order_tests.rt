@@ -11,6 +11,7 @@ use std::process::Abort;
 use std::sync::Wait;
 use std::test::Fail;
 use std::thread::Threads;
+use std::time::Clock;
 
 const SLOTS_3_NO_PAIRS: &str =
     "chimera log 2\nslots 3\ncells 16384\nlimit 16777216\nprofile 0\ninput 0\n\n";
@@ -74,7 +75,7 @@ static RECORDS: [(&[&str], &str, &[(u8, usize)], &str, &[&str]); 6] = [
 
 // Each order of turns tells the same.
 fn check_orders(
-    rt: &(impl Abort + Threads + Wait + Sync),
+    rt: &(impl Abort + Threads + Wait + Clock + Sync),
     alloc: Global,
     words: &[&str],
     orders: &[&[(u8, usize)]],
@@ -89,7 +90,7 @@ fn check_orders(
 }
 
 fn check_record(
-    rt: &(impl Abort + Threads + Wait + Sync),
+    rt: &(impl Abort + Threads + Wait + Clock + Sync),
     alloc: Global,
     row: (&[&str], &str, &[(u8, usize)], &str, &[&str]),
 ) -> Result<(), Fail> {
@@ -147,7 +148,7 @@ static TWENTY: [&[(u8, usize)]; 20] = [
 ];
 
 fn check_change(
-    rt: &(impl Abort + Threads + Wait + Sync),
+    rt: &(impl Abort + Threads + Wait + Clock + Sync),
     alloc: Global,
     entries: &[&str],
     want: (&str, u8),
@@ -166,7 +167,7 @@ fn names_the_first_wrong_entry_by_any_order(rt: HostRuntime) -> Result<(), Fail>
 
 // No log `l` stands there before.
 fn check_turns(
-    rt: &(impl Abort + Threads + Wait + Sync),
+    rt: &(impl Abort + Threads + Wait + Clock + Sync),
     alloc: Global,
     turns: u64,
     shelf: &mut MemShelf,

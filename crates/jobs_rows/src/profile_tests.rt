@@ -11,6 +11,7 @@ use std::process::Abort;
 use std::sync::Wait;
 use std::test::Fail;
 use std::thread::Threads;
+use std::time::Clock;
 
 // A byte is printed before the only thread traps.
 const PRINTS: &str = "#include <stdio.h>
@@ -161,7 +162,7 @@ fn holds(rt: &impl Abort, shelf: &MemShelf, name: &str, want: Option<&str>) {
 }
 
 fn check_profile(
-    rt: &(impl Abort + Threads + Wait + Sync),
+    rt: &(impl Abort + Threads + Wait + Clock + Sync),
     alloc: Global,
     source: &str,
     log: &[&str],
@@ -201,7 +202,7 @@ static FAULTS: [(&[u64], &[u64], &str, u8, Option<&str>); 5] = [
 ];
 
 fn check_fault(
-    rt: &(impl Abort + Threads + Wait + Sync),
+    rt: &(impl Abort + Threads + Wait + Clock + Sync),
     alloc: Global,
     shelf_fails: &[u64],
     write_fails: &[u64],

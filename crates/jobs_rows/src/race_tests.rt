@@ -7,6 +7,7 @@ use std::process::Abort;
 use std::sync::Wait;
 use std::test::Fail;
 use std::thread::Threads;
+use std::time::Clock;
 
 // Two threads and `main` load; nothing is stored after the start.
 pub const READERS: &str = "#include <pthread.h>
@@ -105,7 +106,10 @@ const ROWS: [(&str, &str, u8); 12] = [
 
 static RACES: [&str; 2] = ["races", "a"];
 
-fn check_rows(rt: &(impl Abort + Threads + Wait + Sync), alloc: Global) -> Result<(), Fail> {
+fn check_rows(
+    rt: &(impl Abort + Threads + Wait + Clock + Sync),
+    alloc: Global,
+) -> Result<(), Fail> {
     for (source, text, status) in ROWS {
         check_files(rt, alloc, &RACES, &[source], &[], (text, status))?;
     }
@@ -113,7 +117,10 @@ fn check_rows(rt: &(impl Abort + Threads + Wait + Sync), alloc: Global) -> Resul
 }
 
 // A sink that fails after four bytes.
-fn check_outside(rt: &(impl Abort + Threads + Wait + Sync), alloc: Global) -> Result<(), Fail> {
+fn check_outside(
+    rt: &(impl Abort + Threads + Wait + Clock + Sync),
+    alloc: Global,
+) -> Result<(), Fail> {
     let mut shelf = files_of(alloc, &[BANK], &[])?;
     check(rt, alloc, &RACES, &[4], &mut shelf, ("race", 8))
 }

@@ -8,6 +8,7 @@ use std::process::Abort;
 use std::sync::Wait;
 use std::test::Fail;
 use std::thread::Threads;
+use std::time::Clock;
 
 const HEAD: &str = "#include <pthread.h>\nint v[8]; int u[8];\n";
 
@@ -141,7 +142,7 @@ static RANGES: [(&str, &str, &[&str], &str, u8); 7] = [
 ];
 
 fn check_without_range(
-    rt: &(impl Abort + Threads + Wait + Sync),
+    rt: &(impl Abort + Threads + Wait + Clock + Sync),
     alloc: Global,
 ) -> Result<(), Fail> {
     for &(body, listing) in &WITHOUT_RANGE {
@@ -152,7 +153,7 @@ fn check_without_range(
 }
 
 fn check_range(
-    rt: &(impl Abort + Threads + Wait + Sync),
+    rt: &(impl Abort + Threads + Wait + Clock + Sync),
     alloc: Global,
     body: &str,
     listing: &str,
@@ -166,7 +167,10 @@ fn check_range(
     check_in(rt, alloc, &REPLAY, &SOUND, &mut shelf, want)
 }
 
-fn check_ranges(rt: &(impl Abort + Threads + Wait + Sync), alloc: Global) -> Result<(), Fail> {
+fn check_ranges(
+    rt: &(impl Abort + Threads + Wait + Clock + Sync),
+    alloc: Global,
+) -> Result<(), Fail> {
     for &(body, listing, entries, text, status) in &RANGES {
         check_range(rt, alloc, body, listing, entries, (text, status))?;
     }

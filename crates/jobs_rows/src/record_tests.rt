@@ -13,6 +13,7 @@ use std::process::Abort;
 use std::sync::Wait;
 use std::test::Fail;
 use std::thread::Threads;
+use std::time::Clock;
 
 const SHORT: &str = "int main(void){return 0;}\n";
 
@@ -108,7 +109,7 @@ pub fn same_log(
 
 // A call, and the log that stands there after it.
 fn check_log(
-    rt: &(impl Abort + Threads + Wait + Sync),
+    rt: &(impl Abort + Threads + Wait + Clock + Sync),
     alloc: Global,
     words: &[&str],
     outside: &Outside,
@@ -121,7 +122,7 @@ fn check_log(
 }
 
 fn check_record(
-    rt: &(impl Abort + Threads + Wait + Sync),
+    rt: &(impl Abort + Threads + Wait + Clock + Sync),
     alloc: Global,
     row: (&[&str], &str, &str, &str, u8, &[&str]),
 ) -> Result<(), Fail> {
@@ -152,7 +153,7 @@ static INPUTS: [(usize, &str, u8); 2] = [(1_048_576, "", 0), (1_048_577, "too la
 
 // A log is put where all is well.
 fn check_input(
-    rt: &(impl Abort + Threads + Wait + Sync),
+    rt: &(impl Abort + Threads + Wait + Clock + Sync),
     alloc: Global,
     input: &[u8],
     want: (&str, u8),
@@ -167,7 +168,7 @@ fn check_input(
 }
 
 fn check_length(
-    rt: &(impl Abort + Threads + Wait + Sync),
+    rt: &(impl Abort + Threads + Wait + Clock + Sync),
     alloc: Global,
     length: usize,
     want: (&str, u8),
@@ -313,7 +314,7 @@ static BOTH: [(&str, &[(u8, usize)], &str, u8); 3] = [
 
 // A recording and the replay of its log tell the same, and read the same values.
 fn check_both(
-    rt: &(impl Abort + Threads + Wait + Sync),
+    rt: &(impl Abort + Threads + Wait + Clock + Sync),
     alloc: Global,
     source: &str,
     order: &[(u8, usize)],

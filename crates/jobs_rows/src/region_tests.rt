@@ -7,6 +7,7 @@ use std::process::Abort;
 use std::sync::Wait;
 use std::test::Fail;
 use std::thread::Threads;
+use std::time::Clock;
 
 // Two threads that run `f`, and what `main` does after them.
 const MAIN: &str = "int main(void) {
@@ -70,7 +71,7 @@ static REGIONS: [(&str, &str, u8); 7] = [
 static RECORD: [&str; 7] = ["record", "a", "l", "--slots", "3", "--profile", "b"];
 
 fn check_order(
-    rt: &(impl Abort + Threads + Wait + Sync),
+    rt: &(impl Abort + Threads + Wait + Clock + Sync),
     alloc: Global,
     body: &str,
     order: &[(u8, usize)],
@@ -84,7 +85,7 @@ fn check_order(
 }
 
 fn check_orders(
-    rt: &(impl Abort + Threads + Wait + Sync),
+    rt: &(impl Abort + Threads + Wait + Clock + Sync),
     alloc: Global,
     body: &str,
     want: (&str, u8),

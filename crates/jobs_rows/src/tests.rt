@@ -10,6 +10,7 @@ use std::process::Abort;
 use std::sync::Wait;
 use std::test::Fail;
 use std::thread::Threads;
+use std::time::Clock;
 
 // A source, and what is told of it with a log of one thread that only ends: its faults by bytes, by the grammar, and by
 // types.
@@ -41,7 +42,10 @@ static NO_JOBS: [&[&str]; 7] = [
     &["profile", "a", "b", "p", "--reads", "r"],
 ];
 
-fn check_no_jobs(rt: &(impl Abort + Threads + Wait + Sync), alloc: Global) -> Result<(), Fail> {
+fn check_no_jobs(
+    rt: &(impl Abort + Threads + Wait + Clock + Sync),
+    alloc: Global,
+) -> Result<(), Fail> {
     for words in &NO_JOBS {
         check_files(rt, alloc, words, &[], &[], ("usage\n", 1))?;
     }
@@ -49,7 +53,10 @@ fn check_no_jobs(rt: &(impl Abort + Threads + Wait + Sync), alloc: Global) -> Re
 }
 
 // A sink that fails at once and after one byte.
-fn check_outside(rt: &(impl Abort + Threads + Wait + Sync), alloc: Global) -> Result<(), Fail> {
+fn check_outside(
+    rt: &(impl Abort + Threads + Wait + Clock + Sync),
+    alloc: Global,
+) -> Result<(), Fail> {
     let mut shelf = files_of(alloc, &[BANK], BANK_LOG)?;
     check(rt, alloc, &REPLAY, &[0], &mut shelf, ("", 8))?;
     check(rt, alloc, &REPLAY, &[1], &mut shelf, ("2", 8))
@@ -57,7 +64,7 @@ fn check_outside(rt: &(impl Abort + Threads + Wait + Sync), alloc: Global) -> Re
 
 /// Each source is told so when it is run by its log.
 pub fn check_rows(
-    rt: &(impl Abort + Threads + Wait + Sync),
+    rt: &(impl Abort + Threads + Wait + Clock + Sync),
     alloc: Global,
     rows: &[(&str, &[&str], &str, u8)],
 ) -> Result<(), Fail> {
@@ -67,11 +74,17 @@ pub fn check_rows(
     Ok(())
 }
 
-fn check_runs(rt: &(impl Abort + Threads + Wait + Sync), alloc: Global) -> Result<(), Fail> {
+fn check_runs(
+    rt: &(impl Abort + Threads + Wait + Clock + Sync),
+    alloc: Global,
+) -> Result<(), Fail> {
     check_rows(rt, alloc, &RUNS)
 }
 
-fn check_more_runs(rt: &(impl Abort + Threads + Wait + Sync), alloc: Global) -> Result<(), Fail> {
+fn check_more_runs(
+    rt: &(impl Abort + Threads + Wait + Clock + Sync),
+    alloc: Global,
+) -> Result<(), Fail> {
     check_rows(rt, alloc, &MORE_RUNS)
 }
 
@@ -86,7 +99,7 @@ fn cut_answer(alloc: Global, front: &[u8]) -> Result<(String, u8), AllocError> {
 }
 
 fn check_front_part(
-    rt: &(impl Abort + Threads + Wait + Sync),
+    rt: &(impl Abort + Threads + Wait + Clock + Sync),
     alloc: Global,
     front: &[u8],
 ) -> Result<(), Fail> {
@@ -96,7 +109,10 @@ fn check_front_part(
 }
 
 // Each front part of the bank's log, byte by byte: none but the whole runs to the end.
-fn check_front_parts(rt: &(impl Abort + Threads + Wait + Sync), alloc: Global) -> Result<(), Fail> {
+fn check_front_parts(
+    rt: &(impl Abort + Threads + Wait + Clock + Sync),
+    alloc: Global,
+) -> Result<(), Fail> {
     let whole = joined(alloc, BANK_LOG)?;
     for end in 0..whole.len() {
         check_front_part(rt, alloc, &whole.as_slice()[..end])?;
@@ -104,7 +120,10 @@ fn check_front_parts(rt: &(impl Abort + Threads + Wait + Sync), alloc: Global) -
     Ok(())
 }
 
-fn check_sources(rt: &(impl Abort + Threads + Wait + Sync), alloc: Global) -> Result<(), Fail> {
+fn check_sources(
+    rt: &(impl Abort + Threads + Wait + Clock + Sync),
+    alloc: Global,
+) -> Result<(), Fail> {
     for &(source, text, status) in &SOURCES {
         let log = [FIRST, SLOTS_8, IDLE];
         check_files(rt, alloc, &REPLAY, &[source], &log, (text, status))?;
@@ -123,7 +142,7 @@ fn nested(alloc: Global, depth: usize) -> Result<Bytes, AllocError> {
 }
 
 fn check_nested(
-    rt: &(impl Abort + Threads + Wait + Sync),
+    rt: &(impl Abort + Threads + Wait + Clock + Sync),
     alloc: Global,
     depth: usize,
     want: (&str, u8),
@@ -135,7 +154,10 @@ fn check_nested(
 }
 
 // One level more than 256, and the last that the grammar takes.
-fn check_levels(rt: &(impl Abort + Threads + Wait + Sync), alloc: Global) -> Result<(), Fail> {
+fn check_levels(
+    rt: &(impl Abort + Threads + Wait + Clock + Sync),
+    alloc: Global,
+) -> Result<(), Fail> {
     let rows = [(255, "source refused 8 1 278\n", 2), (254, "", 0)];
     for (depth, text, status) in rows {
         check_nested(rt, alloc, depth, (text, status))?;

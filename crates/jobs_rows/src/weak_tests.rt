@@ -10,6 +10,7 @@ use std::process::Abort;
 use std::sync::Wait;
 use std::test::Fail;
 use std::thread::Threads;
+use std::time::Clock;
 
 // Two threads store an array, and the first of them every second element.
 const STEPS: &str = "#include <pthread.h>
@@ -69,7 +70,10 @@ static LISTINGS: [(&str, &str, u8); 9] = [
 
 static WEAKEN: [&str; 2] = ["weaken", "a"];
 
-fn check_listings(rt: &(impl Abort + Threads + Wait + Sync), alloc: Global) -> Result<(), Fail> {
+fn check_listings(
+    rt: &(impl Abort + Threads + Wait + Clock + Sync),
+    alloc: Global,
+) -> Result<(), Fail> {
     for &(source, text, status) in &LISTINGS {
         check_files(rt, alloc, &WEAKEN, &[source], &[], (text, status))?;
     }
@@ -77,7 +81,10 @@ fn check_listings(rt: &(impl Abort + Threads + Wait + Sync), alloc: Global) -> R
 }
 
 // A sink that fails after four bytes.
-fn check_outside(rt: &(impl Abort + Threads + Wait + Sync), alloc: Global) -> Result<(), Fail> {
+fn check_outside(
+    rt: &(impl Abort + Threads + Wait + Clock + Sync),
+    alloc: Global,
+) -> Result<(), Fail> {
     let mut shelf = files_of(alloc, &[COUNTER], &[])?;
     check(rt, alloc, &WEAKEN, &[4], &mut shelf, ("lock", 8))
 }

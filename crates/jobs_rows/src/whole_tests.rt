@@ -7,6 +7,7 @@ use std::process::Abort;
 use std::sync::Wait;
 use std::test::Fail;
 use std::thread::Threads;
+use std::time::Clock;
 
 // Declarations, scopes, initials, operators, statements, pointers, members and prints, on one thread.
 const EVERY_CONSTRUCT: &str = "#include <stdio.h>
@@ -439,7 +440,10 @@ static ROWS: [(&str, &str, &str); 2] = [
     ),
 ];
 
-fn check_rows(rt: &(impl Abort + Threads + Wait + Sync), alloc: Global) -> Result<(), Fail> {
+fn check_rows(
+    rt: &(impl Abort + Threads + Wait + Clock + Sync),
+    alloc: Global,
+) -> Result<(), Fail> {
     for (source, log, prints) in ROWS {
         check_files(rt, alloc, &REPLAY, &[source], &[log], (prints, 0))?;
     }

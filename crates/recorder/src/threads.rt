@@ -23,6 +23,7 @@ use shared_cells::{Cells, Seat};
 use std::alloc::{AllocError, Global};
 use std::sync::Wait;
 use std::thread::Threads;
+use std::time::Clock;
 use sync_objects::Setup;
 use thread_interpreter::Formula;
 use thread_step::ThreadRun;
@@ -112,7 +113,7 @@ fn log_of(
 /// Runs the code's threads to their end, each as a job of its own, in turns that the crew gives; a stripe that another thread
 /// wants may be taken from a thread that has held it for `budget` of its turns. The entries are the log of that run, and the walk
 /// is theirs: it takes all entries, and keeps the accesses that meet the formula.
-pub fn record_threads<R: Threads + Wait + Sync, C: Crew>(
+pub fn record_threads<R: Threads + Wait + Clock + Sync, C: Crew>(
     rt: &R,
     alloc: Global,
     code: &Code,

@@ -18,7 +18,6 @@ use crew::Job;
 use rr_base::List;
 use shared_cells::{Cells, Seat};
 use std::marker::Model;
-use std::thread;
 use thread_step::ThreadRun;
 
 /// A thread of a code that follows its entries of a log, over words that all threads share. It goes on only while its next entry
@@ -38,6 +37,7 @@ pub struct Follower<'c, 'a> {
     is_out: bool,
     // The position that it has put before its first turn.
     known: Option<u32>,
+    turns_in_vain: u32,
 }
 
 impl<'c, 'a> Model for Follower<'c, 'a> {
@@ -89,6 +89,7 @@ impl<'c, 'a> Follower<'c, 'a> {
             has_departed: false,
             is_out: false,
             known: None,
+            turns_in_vain: 0,
         }
     }
 
@@ -164,10 +165,12 @@ impl<'c, 'a> Follower<'c, 'a> {
         };
         self.bound = tried.bound;
         match tried.step {
-            // a thread that has to wait lets others run
-            Step::Waits => thread::yield_now(),
-            Step::Goes => {}
-            Step::Makes => self.made += 1,
+            Step::Waits => self.turns_in_vain = self.turns_in_vain.saturating_add(1),
+            Step::Goes => self.turns_in_vain = 0,
+            Step::Makes => {
+                self.turns_in_vain = 0;
+                self.made += 1;
+            }
             Step::Departs => self.has_departed = true,
         }
     }
@@ -197,5 +200,9 @@ impl<'c, 'a> Job for Follower<'c, 'a> {
 
     fn turns(&self) -> u64 {
         self.turns
+    }
+
+    fn turns_in_vain(&self) -> u32 {
+        self.turns_in_vain
     }
 }

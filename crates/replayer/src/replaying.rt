@@ -24,6 +24,7 @@ use shared_cells::{Cells, Seat};
 use std::alloc::{AllocError, Global};
 use std::sync::Wait;
 use std::thread::Threads;
+use std::time::Clock;
 use sync_objects::{Entry, Setup};
 use thread_interpreter::Formula;
 use thread_step::ThreadRun;
@@ -206,7 +207,7 @@ fn conclude(
 
 /// Replays a log: each thread of the code follows its own entries of it, in turns that the crew gives, as a job of its own. The
 /// answer is the log's walk.
-pub fn replay<R: Threads + Wait + Sync, C: Crew>(
+pub fn replay<R: Threads + Wait + Clock + Sync, C: Crew>(
     rt: &R,
     alloc: Global,
     code: &Code,

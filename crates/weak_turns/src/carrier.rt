@@ -18,7 +18,6 @@ use crew::Job;
 use shared_cells::{Attempt, Cells, Seat};
 use std::alloc::{AllocError, Global};
 use std::marker::Model;
-use std::thread;
 use thread_step::ThreadRun;
 
 /// Runs one thread of a code, over words that all threads share. A stripe that another thread wants is taken from it once it has
@@ -33,6 +32,7 @@ pub struct Carrier<'c, 'a> {
     // For each stripe of the code's locks the turn in which it was taken last.
     since: Vec<u64>,
     is_out: bool,
+    turns_in_vain: u32,
 }
 
 impl<'c, 'a> Model for Carrier<'c, 'a> {
@@ -81,6 +81,7 @@ impl<'c, 'a> Carrier<'c, 'a> {
             turns: 0,
             since,
             is_out: false,
+            turns_in_vain: 0,
         })
     }
 
@@ -145,20 +146,25 @@ impl<'c, 'a> Job for Carrier<'c, 'a> {
         ensures leads { IsSameCarrier self.old self.new }
         ensures played { HasPlayed self.old self.new }
     {
-        // a thread that has to wait lets others run
-        if let Some(
+        self.turns_in_vain = if let Some(
             Played::Tried {
                 came: Attempt::NotYet { .. },
                 ..
             },
         ) = self.play()
         {
-            thread::yield_now();
-        }
+            self.turns_in_vain.saturating_add(1)
+        } else {
+            0
+        };
         self.is_out || self.run.ending().is_some()
     }
 
     fn turns(&self) -> u64 {
         self.turns
+    }
+
+    fn turns_in_vain(&self) -> u32 {
+        self.turns_in_vain
     }
 }
