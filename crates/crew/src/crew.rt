@@ -56,7 +56,7 @@ pub trait Crew {
         ensures finished { IfOk result (λ ended. IfOk ended (λ back. AllZip (Finished J.Job) jobs.items back.items)) }
         ensures jobs_run { IfOk result (λ ended. IfOk ended (λ _. RoseBy (vec_len jobs) (jobs_run self.old) (jobs_run self.new))) }
         ensures turns { IfOk result (λ ended. IfOk ended (λ back. RoseBy (rises J.turns jobs.items back.items) (turns self.old) (turns self.new))) }
-        ensures err { IfOk result (λ ended. OnErr ended ((jobs_run self.old ≤ jobs_run self.new) × (turns self.old ≤ turns self.new))) }
+        ensures err { IfOk result (λ ended. OnErr ended ((jobs_run self.new ≡ jobs_run self.old) × (turns self.old ≤ turns self.new))) }
         ensures faults { IfOk result (λ ended. MatchResult ended (λ _. faults self.new ≡ faults self.old) (λ end. CrewFaults end (faults self.old) (faults self.new))) };
 
     /// Counts so many jobs that were run in threads, and so many turns that they were given.
@@ -75,7 +75,7 @@ pub trait Crew {
         ensures finished { IfOk result (λ back. AllZip (Finished J.Job) jobs.items back.items) }
         ensures jobs_run { IfOk result (λ _. RoseBy (vec_len jobs) (jobs_run self.old) (jobs_run self.new)) }
         ensures turns { IfOk result (λ back. RoseBy (rises J.turns jobs.items back.items) (turns self.old) (turns self.new)) }
-        ensures err { OnErr result ((jobs_run self.old ≤ jobs_run self.new) × (turns self.old ≤ turns self.new)) }
+        ensures err { OnErr result ((jobs_run self.new ≡ jobs_run self.old) × (turns self.old ≤ turns self.new)) }
         ensures faults { MatchResult result (λ _. faults self.new ≡ faults self.old) (λ end. CrewFaults end (faults self.old) (faults self.new)) }
     {
         match self.offer(alloc, jobs) {

@@ -65,7 +65,7 @@ impl SchedCrew {
         ensures finished { IfOk result (λ back. AllZip (Finished J.Job) jobs.items back.items) }
         ensures jobs_run { IfOk result (λ _. RoseBy (vec_len jobs) self.old.tally.jobs self.new.tally.jobs) }
         ensures turns { IfOk result (λ back. RoseBy (rises J.turns jobs.items back.items) self.old.tally.turns self.new.tally.turns) }
-        ensures err { OnErr result ((self.old.tally.jobs ≤ self.new.tally.jobs) × (self.old.tally.turns ≤ self.new.tally.turns)) }
+        ensures err { OnErr result ((self.new.tally.jobs ≡ self.old.tally.jobs) × (self.old.tally.turns ≤ self.new.tally.turns)) }
         ensures faults { MatchResult result (λ _. self.new.faults ≡ self.old.faults) (λ end. CrewFaults end self.old.faults self.new.faults) }
         ensures played { IfOk result (λ back. Played J.Job self.old.order self.old.most IsOver jobs.items back.items) }
         ensures fell_short { IfErr result (λ end. end ≡ crew_end.Failed → FellShort J.Job self.old.order self.old.most jobs.items self.old.tally.turns self.new.tally.turns) }

@@ -244,7 +244,7 @@ module _ (a b : Work) (files : Files) (left : List ℕ) (old new : Outside) (sta
   CauseIs job = CauseOf files left job old new status
 
   abbrev EndsSo : Option Asked → Type 0
-  EndsSo job = Ends (IsOutcome a b (Some files) (Some left) job) (PutsBefore a job) (UsesShelf job) (AsksInput (Some files) job) (AsksCrew (Some files) (Some left) job) old new status
+  EndsSo job = Ends (IsOutcome a b (Some files) (Some left) job) (PutsBefore a b job) (UsesShelf job) (AsksInput (Some files) job) (AsksCrew (Some files) (Some left) job) old new status
 
   by_writes : (job : Option Asked) (text : List ℕ) (n : ℕ) → (status ≡ n → CauseIs job) → Writes text n old.out new.out status → CauseIs job
   by_writes job text n cause (Whole e took faults) = cause e

@@ -39,7 +39,7 @@ module _ (old new : Work) (files : Option Files) (left : Option (List ℕ)) (job
   found_with_work first last o h by idle = record { before = h.before; put = h.put; has = record { is = one (following h.before o) h.has; idle = idle_by o.answer by idle } }
 
   -- an outcome, with what the crew has done
-  pub with_work : (Before : List Put → Type 0) (first last : Option Files) (r : Result Outcome Stop) → ComesTo One Before first last r → RunsThreads (Some job) ⊎ (new ≡ old) → IsIdle r old new → ComesTo (IsOutcome old new files left (Some job)) Before first last r
+  pub with_work : (Before : Stop → List Put → Type 0) (first last : Option Files) (r : Result Outcome Stop) → ComesTo One Before first last r → RunsThreads (Some job) ⊎ (new ≡ old) → IsIdle r old new → ComesTo (IsOutcome old new files left (Some job)) Before first last r
   with_work Before first last (Ok o) h by idle = found_with_work first last o h by idle
   with_work Before first last (Err (stop.Refused a)) h by idle = found_with_work first last (answers a) h by idle
   with_work Before first last (Err stop.ShelfFailed) h by idle = h
@@ -48,14 +48,14 @@ module _ (old new : Work) (files : Option Files) (left : Option (List ℕ)) (job
   with_work Before first last (Err stop.OutOfMemory) h by idle = h
 
 -- .. of a job that puts nothing on the way
-module _ (old new : Work) (files : Option Files) (left : Option (List ℕ)) (job : Asked) (none : puts_first job ≡ []) (before : PutsBefore old (Some job) []) where
+module _ (old new : Work) (files : Option Files) (left : Option (List ℕ)) (job : Asked) (none : puts_first job ≡ []) (before : (s : Stop) → PutsBefore old new (Some job) s []) where
   at_first : (o : Outcome) → Reads files left (reading_of job) (IsDone old new job) o → IsOutcomeOf old new files left job o
   at_first o h = record { rest = o; comes = h; told = sym (ap (λ (ps : List Put). following ps o) none) }
 
-  pub at_once : (One : Outcome → Type 0) → ((o : Outcome) → One o → Reads files left (reading_of job) (IsDone old new job) o) → (r : Result Outcome Stop) → Gives One r → RunsThreads (Some job) ⊎ (new ≡ old) → IsIdle r old new → (last : Option Files) → last ≡ files → ComesTo (IsOutcome old new files left (Some job)) (PutsBefore old (Some job)) files last r
+  pub at_once : (One : Outcome → Type 0) → ((o : Outcome) → One o → Reads files left (reading_of job) (IsDone old new job) o) → (r : Result Outcome Stop) → Gives One r → RunsThreads (Some job) ⊎ (new ≡ old) → IsIdle r old new → (last : Option Files) → last ≡ files → ComesTo (IsOutcome old new files left (Some job)) (PutsBefore old new (Some job)) files last r
   at_once One one r gives by idle last same =
-      with_work old new files left job (IsOutcomeOf old new files left job) (λ o h. h) (PutsBefore old (Some job)) files last r
-      (comes_at_once (IsOutcomeOf old new files left job) (PutsBefore old (Some job)) files last r before (gives_map One (IsOutcomeOf old new files left job) r (λ o h. at_first o (one o h)) gives) same) by idle
+      with_work old new files left job (IsOutcomeOf old new files left job) (λ o h. h) (PutsBefore old new (Some job)) files last r
+      (comes_at_once (IsOutcomeOf old new files left job) (PutsBefore old new (Some job)) files last r before (gives_map One (IsOutcomeOf old new files left job) r (λ o h. at_first o (one o h)) gives) same) by idle
 
 -- a made source has been read
 pub making_reads : (old new : Work) (files : Option Files) (left : Option (List ℕ)) (count : ℕ) (name : List ℕ) (o : Outcome) → IsMaking old new count name o → IsOutcomeOf old new files left (Make count name) o

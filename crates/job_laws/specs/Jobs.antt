@@ -7,6 +7,7 @@ use Rattle.c_tree.specs.Tree.{Outer}
 use Rattle.job_outcomes.specs.Outcomes.{answers, following}
 use Rattle.job_outcomes.specs.Puts.{Put}
 use Rattle.job_outcomes.specs.declared.outcome.Outcome.{Outcome}
+use Rattle.job_outcomes.specs.declared.stop.Stop.{Stop}
 use Rattle.job_profiles.specs.Profiles.{named}
 use Rattle.job_runs.specs.Works.{IsOfRun, Work}
 use Rattle.order_log.specs.Log.{LogView}
@@ -78,10 +79,10 @@ pub record IsOutcome (old new : Work) (files : Option Files) (left : Option (Lis
   pub is : MayBe old new files left job o
   pub idle : (RunsThreads job → IsOfRun o.answer → ⊥) → new ≡ old
 
--- the files that a job puts before it has an outcome: a made source, and its log
-abbrev pub PutsBefore : (old : Work) → Option Asked → List Put → Type 0
-PutsBefore old (Some (Make count name)) puts = IsPutInMaking old count name puts
-PutsBefore old _ puts = puts ≡ []
+-- the files that a job may have put before it stops so: a made source, and its log
+abbrev pub PutsBefore : (old new : Work) → Option Asked → Stop → List Put → Type 0
+PutsBefore old new (Some (Make count name)) s puts = IsPutInMaking old new count name s puts
+PutsBefore old new _ s puts = puts ≡ []
 
 -- the statuses with which the program ends
 abbrev pub is_status : ℕ → Bool

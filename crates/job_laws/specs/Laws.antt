@@ -20,5 +20,5 @@ OneRefusal = (a b c d : Work) (files : Files) (left : List ℕ) (job : Option As
 -- each status comes only of its cause; and where nothing failed, a cause in the words, the files or the input has its status
 abbrev pub StatusesHaveCauses : Type 0
 StatusesHaveCauses = (a b : Work) (files : Files) (left : List ℕ) (job : Option Asked) (old new : Outside) (status : ℕ)
-    → Ends (IsOutcome a b (Some files) (Some left) job) (PutsBefore a job) (UsesShelf job) (AsksInput (Some files) job) (AsksCrew (Some files) (Some left) job) old new status
+    → Ends (IsOutcome a b (Some files) (Some left) job) (PutsBefore a b job) (UsesShelf job) (AsksInput (Some files) job) (AsksCrew (Some files) (Some left) job) old new status
     → CauseOf files left job old new status × (WentWell old new status → IsDecided files left job status)

@@ -10,6 +10,7 @@ use Rattle.job_outcomes.specs.Puts.{ArePut, Put}
 use Rattle.job_outcomes.specs.Steps.{Comes}
 use Rattle.job_outcomes.specs.declared.outcome.Outcome.{Outcome}
 use Rattle.job_outcomes.specs.declared.stop.Stop.{Stop}
+use Rattle.job_outcomes.specs.declared.stop.Stop.TheVariants as stop
 use Rattle.rr_base.specs.Files.{Files}
 use Rattle.sync_objects.specs.declared.entry.Entry.{Entry}
 use Rattle.workload.specs.Program.{program_text}
@@ -45,11 +46,12 @@ pub record IsMade (old new : Work) (count : ℕ) (name : List ℕ) (os : List Ou
   pub replaying : Replays between new (made_log name recording.entries) None os replayed
   pub told : o ≡ record { puts = recorded.puts; answer = summary_told count (length (program_text count)) recorded.answer replayed.answer }
 
--- What is put before the outcome is found: the source; or then, where only the replay is left to do, the log of the recording that
--- the crew has run since the call began, too.
-pub data IsPutInMaking (old : Work) (count : ℕ) (name : List ℕ) (puts : List Put) : Type 0 where
-  Source : puts ≡ source_put count name ∷ [] → IsPutInMaking old count name puts
-  SourceAndLog : (between : Work) (os : List Outer) (recorded : Outcome) → IsTree (program_text count) (Ok os) → IsRecording old between (recording_of name) profile.All os [] recorded → puts ≡ source_put count name ∷ recorded.puts → IsPutInMaking old count name puts
+-- What is put before the job stops so: the source; or then, where only the replay is left to do, the log of the recording that the
+-- crew has run since the call began, too. Where the crew fails, the first is left if it has run none of the recording's jobs, and
+-- both if it has run these and none of the replay's.
+pub data IsPutInMaking (old new : Work) (count : ℕ) (name : List ℕ) (s : Stop) (puts : List Put) : Type 0 where
+  Source : puts ≡ source_put count name ∷ [] → (s ≡ stop.CrewFailed → new.jobs ≡ old.jobs) → IsPutInMaking old new count name s puts
+  SourceAndLog : (between : Work) (os : List Outer) (recorded : Outcome) → IsTree (program_text count) (Ok os) → IsRecording old between (recording_of name) profile.All os [] recorded → puts ≡ source_put count name ∷ recorded.puts → (s ≡ stop.CrewFailed → new.jobs ≡ between.jobs) → IsPutInMaking old new count name s puts
 
 -- ---- for private clauses
 
@@ -61,7 +63,7 @@ pub record IsMaking (old new : Work) (count : ℕ) (name : List ℕ) (o : Outcom
 
 -- what a call that makes a source comes to
 abbrev pub Makes : (old new : Work) → (count : ℕ) → (name : List ℕ) → (before after : Option Files) → Result Outcome Stop → Type 0
-Makes old new count name before after r = ComesTo (IsMaking old new count name) (IsPutInMaking old count name) before after r
+Makes old new count name before after r = ComesTo (IsMaking old new count name) (IsPutInMaking old new count name) before after r
 
 -- .. once the source is put, whatever was there before
 abbrev pub MakesOncePut : (old new : Work) → (count : ℕ) → (name : List ℕ) → (between after : Option Files) → Result Outcome Stop → Type 0

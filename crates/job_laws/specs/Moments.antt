@@ -36,13 +36,13 @@ outside_of at out = record { files = at.files; counts = at.counts; out = out }
 
 -- how a call ends that does this job, or has words that are none
 abbrev pub EndsFor : Option Asked → (old new : Moment) → (out_old out_new : Sight) → (result : ℕ) → Type 0
-EndsFor job old new out_old out_new result = Ends (IsOutcome old.work new.work old.files old.left job) (PutsBefore old.work job) (UsesShelf job) (AsksInput old.files job) (AsksCrew old.files old.left job) (outside_of old out_old) (outside_of new out_new) result
+EndsFor job old new out_old out_new result = Ends (IsOutcome old.work new.work old.files old.left job) (PutsBefore old.work new.work job) (UsesShelf job) (AsksInput old.files job) (AsksCrew old.files old.left job) (outside_of old out_old) (outside_of new out_new) result
 
 -- ---- for private clauses
 
 -- what a job comes to, and what it has put on the way
 abbrev pub ComesFor : Asked → (old new : Moment) → Result Outcome Stop → Type 0
-ComesFor job old new r = ComesTo (IsOutcome old.work new.work old.files old.left (Some job)) (PutsBefore old.work (Some job)) old.files new.files r
+ComesFor job old new r = ComesTo (IsOutcome old.work new.work old.files old.left (Some job)) (PutsBefore old.work new.work (Some job)) old.files new.files r
 
 -- no count has risen but by the fault for which it stopped
 abbrev pub CountsFor : (old new : Moment) → Result Outcome Stop → Type 0

@@ -30,7 +30,7 @@ finishes_after ps o first between last old new result h e (Tells puts faults w) 
 finishes_after ps o first between last old new result h e (PutFails puts rose w) = PutFails (failed_after ps o.puts first.files between.files last.files h puts) (subst (λ n. Rose n last.faults) e rose) w
 finishes_after ps o first between last old new result h e (LacksMemory is same puts faults) = LacksMemory is same (partly_after ps o.puts first.files between.files last.files h puts) (faults ∙ e)
 
-module _ (MayHave : Outcome → Type 0) (PutsBefore : List Put → Type 0) (UsesShelf ReadsInput Runs : Type 0) (old new : Outside) (result : ℕ) where
+module _ (MayHave : Outcome → Type 0) (PutsBefore : Stop → List Put → Type 0) (UsesShelf ReadsInput Runs : Type 0) (old new : Outside) (result : ℕ) where
   -- an outcome was found, without a change of the outside but for files that were put, and then finished
   pub finished : (o : Outcome) (between : ShelfSight) → IsFoundSo MayHave old.files between.files o → between.faults ≡ old.counts.shelf → new.counts.input ≡ old.counts.input → new.counts.crew ≡ old.counts.crew → Finishes o between (shelf_of new) old.out new.out result → Ends MayHave PutsBefore UsesShelf ReadsInput Runs old new result
   finished o between h faults input crew f = Found (following h.before o) h.has (record { input = input; crew = crew }) (finishes_after h.before o (shelf_of old) between (shelf_of new) old.out new.out result h.put faults f)
@@ -46,13 +46,13 @@ module _ (MayHave : Outcome → Type 0) (PutsBefore : List Put → Type 0) (Uses
   stopped stop.OutOfMemory h counts may tells = WantsMemory tells.0 h.0 h.1 h.2 counts tells.1
 
 -- no file is put on the way to what was found
-pub comes_at_once : (MayHave : Outcome → Type 0) (PutsBefore : List Put → Type 0) (old new : Option Files) (r : Result Outcome Stop) → PutsBefore [] → Gives MayHave r → new ≡ old → ComesTo MayHave PutsBefore old new r
+pub comes_at_once : (MayHave : Outcome → Type 0) (PutsBefore : Stop → List Put → Type 0) (old new : Option Files) (r : Result Outcome Stop) → ((s : Stop) → PutsBefore s []) → Gives MayHave r → new ≡ old → ComesTo MayHave PutsBefore old new r
 comes_at_once MayHave PutsBefore old new (Ok o) none h e = record { before = []; put = no_puts old new e; has = h }
 comes_at_once MayHave PutsBefore old new (Err (stop.Refused a)) none h e = record { before = []; put = no_puts old new e; has = h }
-comes_at_once MayHave PutsBefore old new (Err stop.ShelfFailed) none h e = ([], none, NonePut refl e)
+comes_at_once MayHave PutsBefore old new (Err stop.ShelfFailed) none h e = ([], none _, NonePut refl e)
 comes_at_once MayHave PutsBefore old new (Err stop.InputFailed) none h e = e
-comes_at_once MayHave PutsBefore old new (Err stop.CrewFailed) none h e = ([], none, no_puts old new e)
-comes_at_once MayHave PutsBefore old new (Err stop.OutOfMemory) none h e = ([], none, record { made = []; rest = []; split = refl; files = no_puts old new e })
+comes_at_once MayHave PutsBefore old new (Err stop.CrewFailed) none h e = ([], none _, no_puts old new e)
+comes_at_once MayHave PutsBefore old new (Err stop.OutOfMemory) none h e = ([], none _, record { made = []; rest = []; split = refl; files = no_puts old new e })
 
 -- ---- the statuses
 
@@ -113,7 +113,7 @@ module _ (old new : Outside) (result : ℕ) where
   of_finish o (PutFails puts rose w) = of_writes shelf_fault 9 (of_shelf rose) w
   of_finish o (LacksMemory e same puts faults) = of_memory e
 
-  pub causes : (MayHave : Outcome → Type 0) (PutsBefore : List Put → Type 0) (UsesShelf ReadsInput Runs : Type 0) → Ends MayHave PutsBefore UsesShelf ReadsInput Runs old new result → Causes old new result
+  pub causes : (MayHave : Outcome → Type 0) (PutsBefore : Stop → List Put → Type 0) (UsesShelf ReadsInput Runs : Type 0) → Ends MayHave PutsBefore UsesShelf ReadsInput Runs old new result → Causes old new result
   causes MayHave PutsBefore UsesShelf ReadsInput Runs (Found o h only f) = of_finish o f
   causes MayHave PutsBefore UsesShelf ReadsInput Runs (ShelfFails uses puts before files rose only w) = of_writes shelf_fault 9 (of_shelf rose) w
   causes MayHave PutsBefore UsesShelf ReadsInput Runs (InputFails reads files rose shelf crew w) = of_writes read_fault 7 (of_input rose) w

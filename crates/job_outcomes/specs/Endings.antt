@@ -60,16 +60,16 @@ pub data IsCutOff (ps : List Put) (old new : Option Files) : Type 0 where
   NonePut : ps ≡ [] → new ≡ old → IsCutOff ps old new
   OneFailed : PutFailed ps old new → IsCutOff ps old new
 
--- How a call ends, where the outcomes that its job may have are given, and the files that it puts before it has one; and whether the
+-- How a call ends, where the outcomes that its job may have are given, and the files that it may have put before it stops so; and whether the
 -- job uses the shelf, reads the input, and has threads run. An outcome was found, whose files are put, and it is told; or before
 -- that the shelf, the input or the crew failed, and that was told; or memory ran out (12), and nothing was told. What the job
 -- had put until then stays.
-pub data Ends (MayHave : Outcome → Type 0) (PutsBefore : List Put → Type 0) (UsesShelf ReadsInput Runs : Type 0) (old new : Outside) (result : ℕ) : Type 0 where
+pub data Ends (MayHave : Outcome → Type 0) (PutsBefore : Stop → List Put → Type 0) (UsesShelf ReadsInput Runs : Type 0) (old new : Outside) (result : ℕ) : Type 0 where
   Found : (o : Outcome) → MayHave o → OnlyShelf old new → Finishes o (shelf_of old) (shelf_of new) old.out new.out result → Ends MayHave PutsBefore UsesShelf ReadsInput Runs old new result
-  ShelfFails : UsesShelf → (puts : List Put) → PutsBefore puts → IsCutOff puts old.files new.files → Rose old.counts.shelf new.counts.shelf → OnlyShelf old new → Writes shelf_fault 9 old.out new.out result → Ends MayHave PutsBefore UsesShelf ReadsInput Runs old new result
+  ShelfFails : UsesShelf → (puts : List Put) → PutsBefore stop.ShelfFailed puts → IsCutOff puts old.files new.files → Rose old.counts.shelf new.counts.shelf → OnlyShelf old new → Writes shelf_fault 9 old.out new.out result → Ends MayHave PutsBefore UsesShelf ReadsInput Runs old new result
   InputFails : ReadsInput → new.files ≡ old.files → Rose old.counts.input new.counts.input → new.counts.shelf ≡ old.counts.shelf → new.counts.crew ≡ old.counts.crew → Writes read_fault 7 old.out new.out result → Ends MayHave PutsBefore UsesShelf ReadsInput Runs old new result
-  CrewFails : Runs → (puts : List Put) → PutsBefore puts → ArePut puts old.files new.files → Rose old.counts.crew new.counts.crew → new.counts.shelf ≡ old.counts.shelf → new.counts.input ≡ old.counts.input → Writes crew_fault 10 old.out new.out result → Ends MayHave PutsBefore UsesShelf ReadsInput Runs old new result
-  WantsMemory : result ≡ 12 → (puts : List Put) → PutsBefore puts → ArePartlyPut puts old.files new.files → new.counts ≡ old.counts → new.out ≡ old.out → Ends MayHave PutsBefore UsesShelf ReadsInput Runs old new result
+  CrewFails : Runs → (puts : List Put) → PutsBefore stop.CrewFailed puts → ArePut puts old.files new.files → Rose old.counts.crew new.counts.crew → new.counts.shelf ≡ old.counts.shelf → new.counts.input ≡ old.counts.input → Writes crew_fault 10 old.out new.out result → Ends MayHave PutsBefore UsesShelf ReadsInput Runs old new result
+  WantsMemory : result ≡ 12 → (puts : List Put) → PutsBefore stop.OutOfMemory puts → ArePartlyPut puts old.files new.files → new.counts ≡ old.counts → new.out ≡ old.out → Ends MayHave PutsBefore UsesShelf ReadsInput Runs old new result
 
 -- ---- for private clauses
 
@@ -80,10 +80,10 @@ pub record IsFoundSo (MayHave : Outcome → Type 0) (old new : Option Files) (le
   pub has : MayHave (following before left)
 
 -- what a job came to, and which files were put on the way
-abbrev pub ComesTo : (MayHave : Outcome → Type 0) → (PutsBefore : List Put → Type 0) → (old new : Option Files) → Result Outcome Stop → Type 0
+abbrev pub ComesTo : (MayHave : Outcome → Type 0) → (PutsBefore : Stop → List Put → Type 0) → (old new : Option Files) → Result Outcome Stop → Type 0
 ComesTo MayHave PutsBefore old new (Ok left) = IsFoundSo MayHave old new left
 ComesTo MayHave PutsBefore old new (Err (stop.Refused a)) = IsFoundSo MayHave old new (answers a)
-ComesTo MayHave PutsBefore old new (Err stop.ShelfFailed) = (puts : List Put) × PutsBefore puts × IsCutOff puts old new
+ComesTo MayHave PutsBefore old new (Err stop.ShelfFailed) = (puts : List Put) × PutsBefore stop.ShelfFailed puts × IsCutOff puts old new
 ComesTo MayHave PutsBefore old new (Err stop.InputFailed) = new ≡ old
-ComesTo MayHave PutsBefore old new (Err stop.CrewFailed) = (puts : List Put) × PutsBefore puts × ArePut puts old new
-ComesTo MayHave PutsBefore old new (Err stop.OutOfMemory) = (puts : List Put) × PutsBefore puts × ArePartlyPut puts old new
+ComesTo MayHave PutsBefore old new (Err stop.CrewFailed) = (puts : List Put) × PutsBefore stop.CrewFailed puts × ArePut puts old new
+ComesTo MayHave PutsBefore old new (Err stop.OutOfMemory) = (puts : List Put) × PutsBefore stop.OutOfMemory puts × ArePartlyPut puts old new

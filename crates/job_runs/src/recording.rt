@@ -47,6 +47,7 @@ fn run<R: Threads + Wait + Clock + Sync, C: Crew>(
 ) -> Result<Recorded, Stop>
     ensures run { IfOk result (IsRunOf (work_of C.Crew crew.old) (work_of C.Crew crew.new) weakened.now setup.now formula.now) }
     ensures faults { MatchResult result (λ _. C.faults crew.new ≡ C.faults crew.old) (λ stop. CrewStops stop (C.faults crew.old) (C.faults crew.new)) }
+    ensures failed { result ≡ Err Stop.CrewFailed → C.jobs_run crew.new ≡ C.jobs_run crew.old }
 {
     let code = weakened.code();
     let _slots = setup.slots();
@@ -106,6 +107,7 @@ pub fn recorded_on<'a, R: Threads + Wait + Clock + Sync, C: Crew>(
     requires names { HasNames profile }
     ensures outcome { IfOk result (λ it. IsLogged (work_of C.Crew crew.old) (work_of C.Crew crew.new) (record_told job.now) profile weakened.now input it.log it.outcome) }
     ensures faults { MatchResult result (λ _. C.faults crew.new ≡ C.faults crew.old) (λ stop. CrewStops stop (C.faults crew.old) (C.faults crew.new)) }
+    ensures failed { result ≡ Err Stop.CrewFailed → C.jobs_run crew.new ≡ C.jobs_run crew.old }
 {
     let setup = Setup::new(job.slots, job.cells, job.limit, input);
     let formula = formula_of(job.reads);

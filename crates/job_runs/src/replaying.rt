@@ -36,6 +36,7 @@ fn walked<R: Threads + Wait + Clock + Sync, C: Crew>(
     ensures walk { IfOk result (WalkIs weakened.now.weak log.now.setup log.now.entries formula.now) }
     ensures crew { IfOk result (λ it. HasRun log.now.setup.slots (entries_taken log.now.entries it) (work_of C.Crew crew.old) (work_of C.Crew crew.new)) }
     ensures faults { MatchResult result (λ _. C.faults crew.new ≡ C.faults crew.old) (λ stop. CrewStops stop (C.faults crew.old) (C.faults crew.new)) }
+    ensures failed { result ≡ Err Stop.CrewFailed → C.jobs_run crew.new ≡ C.jobs_run crew.old }
 {
     let code = weakened.code();
     let setup = log.setup();
@@ -60,6 +61,7 @@ pub fn told_walk<'a, R: Threads + Wait + Clock + Sync, C: Crew>(
 ) -> Result<Outcome<'a>, Stop>
     ensures outcome { IfOk result (λ o. (walk : WalkOf) × WalkIs weakened.now.weak log.now.setup log.now.entries (formula_by (option_map (λ n. n.now) reads.entry)) walk × HasRun log.now.setup.slots (entries_taken log.now.entries walk) (work_of C.Crew crew.old) (work_of C.Crew crew.new) × (o ≡ outcome_by [] (option_map (λ n. n.now) reads.entry) walk)) }
     ensures faults { MatchResult result (λ _. C.faults crew.new ≡ C.faults crew.old) (λ stop. CrewStops stop (C.faults crew.old) (C.faults crew.new)) }
+    ensures failed { result ≡ Err Stop.CrewFailed → C.jobs_run crew.new ≡ C.jobs_run crew.old }
 {
     let formula = formula_of(reads);
     match walked(rt, alloc, weakened, log, &formula, crew) {

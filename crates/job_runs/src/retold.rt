@@ -75,8 +75,9 @@ pub fn replayed_log<'a, R: Threads + Wait + Clock + Sync, S: Keeper, C: Crew>(
     shelf: &mut S,
     crew: &mut C,
 ) -> Result<Outcome<'a>, Stop>
-    ensures outcome { ComesTo (IsReplayed (work_of C.Crew crew.old) (work_of C.Crew crew.new) count bytes weakened.now recording.entry.log recording.entry.outcome) (λ puts. puts ≡ recording.entry.outcome.puts) (S.files shelf.old) (S.files shelf.new) result }
+    ensures outcome { ComesTo (IsReplayed (work_of C.Crew crew.old) (work_of C.Crew crew.new) count bytes weakened.now recording.entry.log recording.entry.outcome) (λ _ puts. puts ≡ recording.entry.outcome.puts) (S.files shelf.old) (S.files shelf.new) result }
     ensures faults { MatchResult result (λ _. (S.faults shelf.new ≡ S.faults shelf.old) × (C.faults crew.new ≡ C.faults crew.old)) (λ stop. CrewShelfStops stop (S.faults shelf.old) (S.faults shelf.new) (C.faults crew.old) (C.faults crew.new)) }
+    ensures failed { result ≡ Err Stop.CrewFailed → C.jobs_run crew.new ≡ C.jobs_run crew.old }
     ensures sound { S.IsSound shelf.old → S.IsSound shelf.new }
     ensures kept { S.IsSound shelf.old → result ≢ Err Stop.ShelfFailed }
 {

@@ -25,22 +25,22 @@ use Rattle.job_laws.specs.Makings.IsPutInMaking.{Source}
 use Rattle.job_laws.specs.Wants.{LacksFile}
 use Rattle.job_runs.specs.Works.{Work}
 
--- files that a job may put before it has an outcome
-puts_before : (old : Work) (job : Option Asked) → (puts : List Put) × PutsBefore old job puts
-puts_before old (Some (Make count name)) = (source_put count name ∷ [], Source refl)
-puts_before old _ = ([], refl)
+-- files that a job may have put before memory runs out
+puts_before : (old new : Work) (job : Option Asked) → (puts : List Put) × PutsBefore old new job stop.OutOfMemory puts
+puts_before old new (Some (Make count name)) = (source_put count name ∷ [], Source refl (λ e. cc e))
+puts_before old new _ = ([], refl)
 
 -- memory ran out for the words, before anything was done
 pub memory_ends : (a b : Work) (files : Option Files) (left : Option (List ℕ)) (job : Option Asked) (old new : Outside) (result : ℕ) → new.files ≡ old.files → new.counts ≡ old.counts → TellsStop stop.OutOfMemory old.out new.out result
-    → Ends (IsOutcome a b files left job) (PutsBefore a job) (UsesShelf job) (AsksInput files job) (AsksCrew files left job) old new result
+    → Ends (IsOutcome a b files left job) (PutsBefore a b job) (UsesShelf job) (AsksInput files job) (AsksCrew files left job) old new result
 memory_ends a b files left job old new result same counts tells =
-    let before = puts_before a job in
+    let before = puts_before a b job in
     WantsMemory tells.0 before.0 before.1 (record { made = []; rest = before.0; split = refl; files = no_puts old.files new.files same }) counts tells.1
 
 module _ (a b : Work) (files : Option Files) (left : Option (List ℕ)) (found : Option Job) (asked : Option Asked) (old new : Outside) (result : ℕ) (is : option_map told found ≡ asked) where
   -- how the call of these words ends
   abbrev EndsFor : Option Asked → Type 0
-  EndsFor job = Ends (IsOutcome a b files left job) (PutsBefore a job) (UsesShelf job) (AsksInput files job) (AsksCrew files left job) old new result
+  EndsFor job = Ends (IsOutcome a b files left job) (PutsBefore a b job) (UsesShelf job) (AsksInput files job) (AsksCrew files left job) old new result
 
   -- the job that was found is that of the words
   pub for_found : (job : Option Job) → found ≡ job → EndsFor (option_map told job) → EndsFor asked
@@ -49,14 +49,14 @@ module _ (a b : Work) (files : Option Files) (left : Option (List ℕ)) (found :
   pub usage_ends : found ≡ None → b ≡ a → new.files ≡ old.files → new.counts ≡ old.counts → Writes (text_of answer.Usage) (status_of answer.Usage) old.out new.out result → EndsFor asked
   usage_ends e idle same counts w =
       let usage = stop.Refused answer.Usage in
-      let comes = comes_at_once (IsOutcome a b files left None) (PutsBefore a None) old.files new.files (Err usage) refl (record { is = refl; idle = λ _. idle }) same in
-      for_found None e (stopped (IsOutcome a b files left None) (PutsBefore a None) (UsesShelf None) (AsksInput files None) (AsksCrew files left None) old new result usage comes counts tt w)
+      let comes = comes_at_once (IsOutcome a b files left None) (PutsBefore a b None) old.files new.files (Err usage) (λ s. refl) (record { is = refl; idle = λ _. idle }) same in
+      for_found None e (stopped (IsOutcome a b files left None) (PutsBefore a b None) (UsesShelf None) (AsksInput files None) (AsksCrew files left None) old new result usage comes counts tt w)
 
   pub found_ends : (job : Job) (o : Outcome) (between : ShelfSight) → found ≡ Some job → IsFoundSo (IsOutcome a b files left (Some (told job))) old.files between.files o → between.faults ≡ old.counts.shelf → new.counts.input ≡ old.counts.input → new.counts.crew ≡ old.counts.crew → Finishes o between (shelf_of new) old.out new.out result → EndsFor asked
-  found_ends job o between e h faults input crew f = for_found (Some job) e (finished (IsOutcome a b files left (Some (told job))) (PutsBefore a (Some (told job))) (UsesShelf (Some (told job))) (AsksInput files (Some (told job))) (AsksCrew files left (Some (told job))) old new result o between h faults input crew f)
+  found_ends job o between e h faults input crew f = for_found (Some job) e (finished (IsOutcome a b files left (Some (told job))) (PutsBefore a b (Some (told job))) (UsesShelf (Some (told job))) (AsksInput files (Some (told job))) (AsksCrew files left (Some (told job))) old new result o between h faults input crew f)
 
-  pub stopped_ends : (job : Job) (s : Stop) → found ≡ Some job → ComesTo (IsOutcome a b files left (Some (told job))) (PutsBefore a (Some (told job))) old.files new.files (Err s) → StopCounts s old.counts new.counts → MayStop (UsesShelf (Some (told job))) (AsksInput files (Some (told job))) (AsksCrew files left (Some (told job))) s → TellsStop s old.out new.out result → EndsFor asked
-  stopped_ends job s e h counts may tells = for_found (Some job) e (stopped (IsOutcome a b files left (Some (told job))) (PutsBefore a (Some (told job))) (UsesShelf (Some (told job))) (AsksInput files (Some (told job))) (AsksCrew files left (Some (told job))) old new result s h counts may tells)
+  pub stopped_ends : (job : Job) (s : Stop) → found ≡ Some job → ComesTo (IsOutcome a b files left (Some (told job))) (PutsBefore a b (Some (told job))) old.files new.files (Err s) → StopCounts s old.counts new.counts → MayStop (UsesShelf (Some (told job))) (AsksInput files (Some (told job))) (AsksCrew files left (Some (told job))) s → TellsStop s old.out new.out result → EndsFor asked
+  stopped_ends job s e h counts may tells = for_found (Some job) e (stopped (IsOutcome a b files left (Some (told job))) (PutsBefore a b (Some (told job))) (UsesShelf (Some (told job))) (AsksInput files (Some (told job))) (AsksCrew files left (Some (told job))) old new result s h counts may tells)
 
 -- a shelf that failed for want of a file is told by 9, and no other stop is
 module _ (files : Option Files) (old new : Sight) (result : ℕ) (nine : result ≡ 9) where

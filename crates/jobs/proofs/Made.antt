@@ -91,22 +91,22 @@ source_is_put count name text (Some files) new is e = subst (λ x. new ≡ Some 
 
 -- what comes of a source that was put
 pub once_put : (a b : Work) (count : ℕ) (name other : List ℕ) (old between new : Option Files) (r : Result Outcome Stop) → other ≡ name
-    → ((first : Option Files) → ArePut (source_put count other ∷ []) first between → ComesTo (IsMaking a b count other) (IsPutInMaking a count other) first new r)
-    → ArePut (source_put count name ∷ []) old between → ComesTo (IsMaking a b count name) (IsPutInMaking a count name) old new r
-once_put a b count name other old between new r e h put = subst (λ x. (first : Option Files) → ArePut (source_put count x ∷ []) first between → ComesTo (IsMaking a b count x) (IsPutInMaking a count x) first new r) e h old put
+    → ((first : Option Files) → ArePut (source_put count other ∷ []) first between → ComesTo (IsMaking a b count other) (IsPutInMaking a b count other) first new r)
+    → ArePut (source_put count name ∷ []) old between → ComesTo (IsMaking a b count name) (IsPutInMaking a b count name) old new r
+once_put a b count name other old between new r e h put = subst (λ x. (first : Option Files) → ArePut (source_put count x ∷ []) first between → ComesTo (IsMaking a b count x) (IsPutInMaking a b count x) first new r) e h old put
 
 module _ (a b : Work) (count : ℕ) (name : List ℕ) (old : Option Files) where
   abbrev source : Put
   source = source_put count name
 
   abbrev ComesSo : Option Files → Result Outcome Stop → Type 0
-  ComesSo new r = ComesTo (IsMaking a b count name) (IsPutInMaking a count name) old new r
+  ComesSo new r = ComesTo (IsMaking a b count name) (IsPutInMaking a b count name) old new r
 
   pub nothing_put : (new : Option Files) (s : Stop) → s ≡ stop.OutOfMemory → new ≡ old → ComesSo new (Err s)
-  nothing_put new s is e = subst (λ x. ComesSo new (Err x)) (sym is) (source ∷ [], Source refl, record { made = []; rest = source ∷ []; split = refl; files = no_puts old new e })
+  nothing_put new s is e = subst (λ x. ComesSo new (Err x)) (sym is) (source ∷ [], Source refl (λ e. cc e), record { made = []; rest = source ∷ []; split = refl; files = no_puts old new e })
 
   pub source_not_put : (new : Option Files) (end : ShelfEnd) (s : Stop) → s ≡ stop_of end → (end ≡ shelf_end.Failed → LeavesOthers name old new) → (end ≡ shelf_end.OutOfMemory → new ≡ old) → ComesSo new (Err s)
-  source_not_put new shelf_end.Failed s is failed memory = subst (λ x. ComesSo new (Err x)) (sym is) (source ∷ [], Source refl, OneFailed (record { made = []; failed = source; rest = []; split = refl; before = old; files = no_puts old old refl; others = failed refl }))
+  source_not_put new shelf_end.Failed s is failed memory = subst (λ x. ComesSo new (Err x)) (sym is) (source ∷ [], Source refl (λ e. cc e), OneFailed (record { made = []; failed = source; rest = []; split = refl; before = old; files = no_puts old old refl; others = failed refl }))
   source_not_put new shelf_end.OutOfMemory s is failed memory = nothing_put new s is (memory refl)
 
   module _ (new : Option Files) (put : ArePut (source_put count name ∷ []) old new) where
@@ -118,14 +118,14 @@ module _ (a b : Work) (count : ℕ) (name : List ℕ) (old : Option Files) where
     not_made stop.ShelfFailed h = absurd h
     not_made stop.InputFailed h = absurd h
     not_made stop.CrewFailed h = absurd h
-    not_made stop.OutOfMemory h = (source ∷ [], Source refl, source_alone)
+    not_made stop.OutOfMemory h = (source ∷ [], Source refl (λ e. cc e), source_alone)
 
-    pub not_recorded : (s : Stop) (crew_old crew_new : ℕ) → CrewStops s crew_old crew_new → ComesSo new (Err s)
-    not_recorded (stop.Refused refusal) crew_old crew_new h = absurd h
-    not_recorded stop.ShelfFailed crew_old crew_new h = absurd h
-    not_recorded stop.InputFailed crew_old crew_new h = absurd h
-    not_recorded stop.CrewFailed crew_old crew_new h = (source ∷ [], Source refl, put)
-    not_recorded stop.OutOfMemory crew_old crew_new h = (source ∷ [], Source refl, source_alone)
+    pub not_recorded : (s : Stop) (crew_old crew_new : ℕ) → CrewStops s crew_old crew_new → (s ≡ stop.CrewFailed → b.jobs ≡ a.jobs) → ComesSo new (Err s)
+    not_recorded (stop.Refused refusal) crew_old crew_new h jobs = absurd h
+    not_recorded stop.ShelfFailed crew_old crew_new h jobs = absurd h
+    not_recorded stop.InputFailed crew_old crew_new h jobs = absurd h
+    not_recorded stop.CrewFailed crew_old crew_new h jobs = (source ∷ [], Source refl (λ e. jobs refl), put)
+    not_recorded stop.OutOfMemory crew_old crew_new h jobs = (source ∷ [], Source refl (λ e. cc e), source_alone)
 
 -- ---- from the source to its summary
 
@@ -153,8 +153,8 @@ module _ (a work b : Work) (count : ℕ) (name : List ℕ) (old between new : Op
         let rest = following h.before left in
         record { before = source_put count name ∷ h.before; put = put_both (source_put count name ∷ []) h.before old between new put h.put; has = record { rest = rest; comes = record { step = Ok runs.os; is = runs.tree; next = is_made rest h.has }; told = refl } }
 
-    with_source : (puts : List Put) → puts ≡ recorded.puts → IsPutInMaking a count name (source_put count name ∷ puts)
-    with_source puts e = SourceAndLog work runs.os recorded runs.tree recording_is (ap (λ (xs : List Put). source_put count name ∷ xs) e)
+    with_source : (s : Stop) (puts : List Put) → puts ≡ recorded.puts → (s ≡ stop.CrewFailed → b.jobs ≡ work.jobs) → IsPutInMaking a b count name s (source_put count name ∷ puts)
+    with_source s puts e jobs = SourceAndLog work runs.os recorded runs.tree recording_is (ap (λ (xs : List Put). source_put count name ∷ xs) e) jobs
 
     -- a recording puts something
     some_put : (puts : List Put) → puts ≡ recorded.puts → puts ≡ [] → ⊥
@@ -164,20 +164,20 @@ module _ (a work b : Work) (count : ℕ) (name : List ℕ) (old between new : Op
     cut_off puts e (NonePut none same) = absurd (some_put puts e none)
     cut_off puts e (OneFailed h) = OneFailed (failed_after (source_put count name ∷ []) puts old between new put h)
 
-    pub making : (r : Result Outcome Stop) (same : Type 0) (shelf_old shelf_new crew_old crew_new : ℕ) → ComesTo (IsReplayed work b count bytes w log recorded) (λ puts. puts ≡ recorded.puts) between new r → MatchResult r (λ _. same) (λ s. CrewShelfStops s shelf_old shelf_new crew_old crew_new) → ComesTo (IsMaking a b count name) (IsPutInMaking a count name) old new r
-    making (Ok left) same shelf_old shelf_new crew_old crew_new h f = is_making left h
-    making (Err (stop.Refused refusal)) same shelf_old shelf_new crew_old crew_new h f = is_making (answers refusal) h
-    making (Err stop.ShelfFailed) same shelf_old shelf_new crew_old crew_new h f = (source_put count name ∷ h.0, with_source h.0 h.1, cut_off h.0 h.1 h.2)
-    making (Err stop.InputFailed) same shelf_old shelf_new crew_old crew_new h f = absurd f
-    making (Err stop.CrewFailed) same shelf_old shelf_new crew_old crew_new h f = (source_put count name ∷ h.0, with_source h.0 h.1, put_both (source_put count name ∷ []) h.0 old between new put h.2)
-    making (Err stop.OutOfMemory) same shelf_old shelf_new crew_old crew_new h f = (source_put count name ∷ h.0, with_source h.0 h.1, partly_after (source_put count name ∷ []) h.0 old between new put h.2)
+    pub making : (r : Result Outcome Stop) (same : Type 0) (shelf_old shelf_new crew_old crew_new : ℕ) → ComesTo (IsReplayed work b count bytes w log recorded) (λ _ puts. puts ≡ recorded.puts) between new r → (r ≡ Err stop.CrewFailed → b.jobs ≡ work.jobs) → MatchResult r (λ _. same) (λ s. CrewShelfStops s shelf_old shelf_new crew_old crew_new) → ComesTo (IsMaking a b count name) (IsPutInMaking a b count name) old new r
+    making (Ok left) same shelf_old shelf_new crew_old crew_new h jobs f = is_making left h
+    making (Err (stop.Refused refusal)) same shelf_old shelf_new crew_old crew_new h jobs f = is_making (answers refusal) h
+    making (Err stop.ShelfFailed) same shelf_old shelf_new crew_old crew_new h jobs f = (source_put count name ∷ h.0, with_source stop.ShelfFailed h.0 h.1 (λ e. cc e), cut_off h.0 h.1 h.2)
+    making (Err stop.InputFailed) same shelf_old shelf_new crew_old crew_new h jobs f = absurd f
+    making (Err stop.CrewFailed) same shelf_old shelf_new crew_old crew_new h jobs f = (source_put count name ∷ h.0, with_source stop.CrewFailed h.0 h.1 (λ e. jobs refl), put_both (source_put count name ∷ []) h.0 old between new put h.2)
+    making (Err stop.OutOfMemory) same shelf_old shelf_new crew_old crew_new h jobs f = (source_put count name ∷ h.0, with_source stop.OutOfMemory h.0 h.1 (λ e. cc e), partly_after (source_put count name ∷ []) h.0 old between new put h.2)
 
 -- what is told of a run that was recorded and replayed is of that run
 module _ (a work b : Work) (count bytes : ℕ) (r : RecordAsked) (w : Analysed) (log : LogView) (recorded : Outcome) (logged : IsLogged a work r profile.All w [] log recorded) (between new : Option Files) where
   of_run : (left : Outcome) → IsFoundSo (IsReplayed work b count bytes w log recorded) between new left → IsOfRun left.answer
   of_run left h = subst IsOfRun (sym (ap (λ (o : Outcome). o.answer) h.has.told)) (summary_is_of_run count bytes recorded.answer (answer_of h.has.walk) (told_of_run recorded _ logged.is.recorded.walk logged.is.told refl))
 
-  pub making_is_idle : (res : Result Outcome Stop) → ComesTo (IsReplayed work b count bytes w log recorded) (λ puts. puts ≡ recorded.puts) between new res → IsIdle res a b
+  pub making_is_idle : (res : Result Outcome Stop) → ComesTo (IsReplayed work b count bytes w log recorded) (λ _ puts. puts ≡ recorded.puts) between new res → IsIdle res a b
   making_is_idle (Ok left) h = ran a b left (of_run left h)
   making_is_idle (Err (stop.Refused refusal)) h = ran a b (answers refusal) (of_run (answers refusal) h)
   making_is_idle (Err stop.ShelfFailed) h = tt

@@ -25,6 +25,8 @@ mod region_tests;
 #[cfg(test)]
 mod tests;
 #[cfg(test)]
+mod tired_crew;
+#[cfg(test)]
 mod walked;
 #[cfg(test)]
 mod watch_tests;

@@ -1,6 +1,7 @@
-use crate::checks::{check, check_in, holds_bytes};
+use crate::checks::{check, check_in, check_on, holds_bytes};
+use crate::tired_crew::TiredCrew;
 use rr_base::{List, MemShelf};
-use samples::outside::{Outside, SOUND};
+use samples::outside::{Outside, SOUND, crew_of};
 use samples::shelves::shelf_of;
 use std::alloc::Global;
 use std::process::Abort;
@@ -90,5 +91,29 @@ fn keeps_what_was_put(rt: HostRuntime) -> Result<(), Fail> {
     for row in FAULTS {
         check_fault(&rt, alloc, row)?;
     }
+    Ok(())
+}
+
+// The crew fails in its second run, that of the replay: 8 jobs were run, those of the recording, and the log stays that the
+// recording alone writes.
+#[test]
+fn keeps_the_log_of_a_recording(rt: HostRuntime) -> Result<(), Fail> {
+    let alloc = rt.alloc();
+    let mut shelf = MemShelf::new(List::new(alloc), List::new(alloc));
+    let mut tired = TiredCrew::new(crew_of(alloc, &SOUND)?, 1);
+    let make = ["make", "1", "n.c"];
+    let fault = ("crew fault\n", 10);
+    check_on(&rt, alloc, &make, &SOUND, &mut shelf, &mut tired, fault)?;
+    holds_source(&rt, alloc, &shelf)?;
+    let mut crew = crew_of(alloc, &SOUND)?;
+    let record = ["record", "n.c", "b"];
+    let done = ("112\n", 0);
+    check_on(&rt, alloc, &record, &SOUND, &mut shelf, &mut crew, done)?;
+    let alone = shelf.content("b").map(|held| held.as_slice());
+    let kept = shelf.content("n.c.log").map(|held| held.as_slice());
+    assert!(rt; alone.is_some());
+    assert_eq!(rt; kept, alone);
+    assert_eq!(rt; (tired.jobs_run(), crew.jobs_run()), (8, 8));
+    assert_eq!(rt; tired.turns(), crew.turns());
     Ok(())
 }

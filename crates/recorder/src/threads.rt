@@ -129,6 +129,7 @@ pub fn record_threads<R: Threads + Wait + Clock + Sync, C: Crew>(
     ensures jobs_run { IfOk result (λ _. RoseBy setup.now.slots (C.jobs_run crew.old) (C.jobs_run crew.new)) }
     ensures turns { IfOk result (λ it. RoseAtLeast (length it.entries) (C.turns crew.old) (C.turns crew.new)) }
     ensures fault { MatchResult result (λ _. C.faults crew.new ≡ C.faults crew.old) (λ end. CrewFaults end (C.faults crew.old) (C.faults crew.new)) }
+    ensures failed { result ≡ Err CrewEnd.Failed → C.jobs_run crew.new ≡ C.jobs_run crew.old }
 {
     prove!(setup.slots() <= 16);
     let (cells, seats) = match Cells::new(alloc, code, setup) {

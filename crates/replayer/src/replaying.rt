@@ -224,6 +224,7 @@ pub fn replay<R: Threads + Wait + Clock + Sync, C: Crew>(
     ensures fault { MatchResult result (λ _. C.faults crew.new ≡ C.faults crew.old) (λ end. CrewFaults end (C.faults crew.old) (C.faults crew.new)) }
     ensures turns { IfOk result (λ w. RoseAtLeast (entries_taken entries.now w) (C.turns crew.old) (C.turns crew.new)) }
     ensures jobs_run { IfOk result (λ _. RoseBy setup.now.slots (C.jobs_run crew.old) (C.jobs_run crew.new)) }
+    ensures failed { result ≡ Err CrewEnd.Failed → C.jobs_run crew.new ≡ C.jobs_run crew.old }
 {
     let (cells, seats) = match Cells::new(alloc, code, setup) {
         Ok(made) => made,

@@ -1,4 +1,4 @@
-use Rattle.std.proofs.Common.{refl, sym, subst, [], length, ◌≤◌, arith}
+use Rattle.std.proofs.Common.{refl, sym, subst, ap, Err, [], length, ◌≤◌, arith}
 use Rattle.command_line.specs.Jobs.{HasRecordLimits, record_told}
 use Rattle.profiles.specs.declared.profile.Profile.TheVariants as profile
 use Rattle.job_laws.specs.Makings.{recording_of}
@@ -18,13 +18,13 @@ returns-in-Ok-clause-outcome g c = λ old put.
     let it = c.in-Ok.recording in
     making _ _ _ c.args.count name old _ _ c.args.weakened.now it.log it.outcome c.requires.code
     (same_logged _ _ (record_told c.args.job.now) (recording_of name) profile.All c.args.weakened.now c.new-input.result [] it.log it.outcome c.requires.job c.new-input.ensures c.in-Ok.ensures.outcome)
-    put c.args.bytes c.requires.bytes c.replayed_log.result _ _ _ _ _ c.replayed_log.ensures.outcome c.replayed_log.ensures.faults
+    put c.args.bytes c.requires.bytes c.replayed_log.result _ _ _ _ _ c.replayed_log.ensures.outcome c.replayed_log.ensures.failed c.replayed_log.ensures.faults
 
 pub returns-in-Ok-clause-faults : goal.returns-in-Ok-clause-faults
 returns-in-Ok-clause-faults g c = later_ends c.replayed_log.result _ _ _ _ _ _ c.replayed_log.ensures.faults refl c.in-Ok.ensures.faults
 
 pub returns-in-Err-clause-outcome : goal.returns-in-Err-clause-outcome
-returns-in-Err-clause-outcome g c = λ old put. not_recorded _ _ c.args.count c.args.job.now.source.now old _ put c.in-Err.stop _ _ c.in-Err.ensures.faults
+returns-in-Err-clause-outcome g c = λ old put. not_recorded _ _ c.args.count c.args.job.now.source.now old _ put c.in-Err.stop _ _ c.in-Err.ensures.faults (λ e. c.in-Err.ensures.failed (ap Err e))
 
 pub returns-in-Err-clause-faults : goal.returns-in-Err-clause-faults
 returns-in-Err-clause-faults g c = crew_ends _ _ _ _ c.in-Err.stop c.in-Err.ensures.faults refl
