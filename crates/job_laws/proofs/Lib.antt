@@ -7,3 +7,4 @@ pub mod Repeated
 pub mod Resumed
 pub mod Unique
 pub mod Worked
+pub mod RunRows
