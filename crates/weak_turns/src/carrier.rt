@@ -18,6 +18,7 @@ use crew::Job;
 use shared_cells::{Attempt, Cells, Seat};
 use std::alloc::{AllocError, Global};
 use std::marker::Model;
+use sync_objects::Op;
 use thread_step::ThreadRun;
 
 /// Runs one thread of a code, over words that all threads share. A stripe that another thread wants is taken from it once it has
@@ -148,12 +149,17 @@ impl<'c, 'a> Job for Carrier<'c, 'a> {
     {
         self.turns_in_vain = if let Some(
             Played::Tried {
+                op,
                 came: Attempt::NotYet { .. },
                 ..
             },
         ) = self.play()
         {
-            self.turns_in_vain.saturating_add(1)
+            if matches!(op, Op::Take | Op::Retake) {
+                1
+            } else {
+                self.turns_in_vain.saturating_add(1)
+            }
         } else {
             0
         };
@@ -164,7 +170,13 @@ impl<'c, 'a> Job for Carrier<'c, 'a> {
         self.turns
     }
 
+    // Who holds a stripe, owes one or waits for one doesn't sleep: its turns are those that a budget counts, and a stripe that was
+    // given up is free for a moment alone.
     fn turns_in_vain(&self) -> u32 {
-        self.turns_in_vain
+        if self.run.stripes().is_empty() {
+            self.turns_in_vain
+        } else {
+            self.turns_in_vain.min(1)
+        }
     }
 }
